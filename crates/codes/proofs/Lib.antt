@@ -1,0 +1,10 @@
+pub mod Ones
+pub mod Fields
+pub mod Syndromes
+pub mod Encodings
+pub mod Mixes
+pub mod Verdicts
+pub mod ColumnLaw
+pub mod Loops
+pub mod Tables
+pub mod ParityLaw

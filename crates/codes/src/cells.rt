@@ -1,0 +1,32 @@
+// Cells: data in bits 0 to 15, checks from bit 16 up; packed and unpacked, and encoded and decoded under any code.
+ghost use mathlib.Core.Path.{_≡_};
+ghost use Prim.Native.Nat.{_≤_};
+ghost use Rattle.codes.specs.Cells.{word-bits, cell-of, data-of, checks-of, encoding};
+use crate::code::Code;
+use crate::verdict::Verdict;
+
+pub fn pack(word: u16, checks: u8) -> u32
+    ensures { λ r. ⌜ r ≡ cell-of word-bits word checks ⌝ }
+{
+    (u32::from(checks) << 16) | u32::from(word)
+}
+
+pub fn data_of(cell: u32) -> u16
+    ensures { λ r. ⌜ r ≡ data-of word-bits cell ⌝ }
+{
+    (cell & 0xffff) as u16
+}
+
+// The low `width` bits of the checks.
+pub(crate) fn checks_of(cell: u32, width: u32) -> u8
+    requires { ⌜ width ≤ 8 ⌝ }
+    ensures { λ r. ⌜ r ≡ checks-of word-bits width cell ⌝ }
+{
+    ((cell >> 16) & ((1 << width) - 1)) as u8
+}
+
+pub fn encode<C: Code>(word: u16) -> u32
+    ensures { λ r. ⌜ r ≡ encoding word-bits (C·Code .meaning) word ⌝ }
+{
+    pack(word, C::checks(word))
+}
