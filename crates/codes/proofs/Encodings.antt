@@ -3,7 +3,7 @@
 use Prim.Native.Nat.{ℕ, _<_, _^_}
 use mathlib.Core.Path.{_≡_, sym, ap, _∙_, subst}
 use lib.Bits.{bitXor}
-use Rattle.codes.specs.Cells.{Coding, data-of, checks-of, places-of, cell-of, encoding}
+use Rattle.codes.specs.Cells.{Judgement, Coding, data-of, checks-of, places-of, cell-of, encoding}
 use Rattle.codes.specs.Law.{Lawful, Encodes, Sound-is-encoding}
 use Rattle.codes.specs.declared.verdict.Verdict.the-variants.{Sound}
 use Rattle.codes.proofs.Fields.{data-below, places-parts}
@@ -27,3 +27,10 @@ module _ (b most : ℕ) (code : Coding) (law : Lawful b most code) where
 
   pub sound-is-encoding : Sound-is-encoding b code
   sound-is-encoding = (encodes-judged, sound-encodes)
+
+  -- the word of a sound judgement is encoded in the cell, and in a cell of another judgement none is
+  pub word-encoded : (cell : ℕ) (j : Judgement) → j ≡ code .judged cell → j .0 ≡ Sound → Encodes b code cell (j .1)
+  word-encoded cell j is sound = subst (λ v. Encodes b code cell (v .1)) (sym is) (sound-encodes cell (sym (ap (λ v. v .0) is) ∙ sound))
+
+  pub none-encoded : (cell : ℕ) (j : Judgement) → j ≡ code .judged cell → (j .0 ≡ Sound → ⊥) → (word : ℕ) → Encodes b code cell word → ⊥
+  none-encoded cell j is other word e = other (ap (λ v. v .0) (is ∙ encodes-judged cell word e))

@@ -8,3 +8,4 @@ pub mod ColumnLaw
 pub mod Loops
 pub mod Tables
 pub mod ParityLaw
+pub mod ExampleProofs

@@ -1,7 +1,9 @@
 // Cells: data in bits 0 to 15, checks from bit 16 up; packed and unpacked, and encoded and decoded under any code.
 ghost use mathlib.Core.Path.{_≡_};
-ghost use Prim.Native.Nat.{_≤_};
+ghost use Prim.Native.Nat.{ℕ, _≤_};
+ghost use Rattle.std.specs.Options.{Cases as BySome};
 ghost use Rattle.codes.specs.Cells.{word-bits, cell-of, data-of, checks-of, encoding};
+ghost use Rattle.codes.specs.Law.{Encodes, Sound-is-encoding};
 use crate::code::Code;
 use crate::verdict::Verdict;
 
@@ -29,4 +31,24 @@ pub fn encode<C: Code>(word: u16) -> u32
     ensures { λ r. ⌜ r ≡ encoding word-bits (C·Code .meaning) word ⌝ }
 {
     pack(word, C::checks(word))
+}
+
+// The K stored checks of a cell under the code.
+pub fn stored_checks<C: Code>(cell: u32) -> u8
+    ensures { λ r. ⌜ r ≡ checks-of word-bits (C·Code .meaning .width) cell ⌝ }
+{
+    let (width, _, _) = C::figures();
+    checks_of(cell, width)
+}
+
+// The word whose encoding the cell's places are, by the verdict; None where they are no word's encoding.
+pub fn encoded_word<C: Code>(cell: u32) -> Option<u16>
+    ensures exact { λ r. ⌜ BySome r ((word : ℕ) → Encodes word-bits (C·Code .meaning) cell word → ⊥) (λ word. Encodes word-bits (C·Code .meaning) cell word) ⌝ }
+    ensures sound { λ _. ⌜ Sound-is-encoding word-bits (C·Code .meaning) ⌝ }
+{
+    let (verdict, word, _) = C::judge(cell);
+    match verdict {
+        Verdict::Sound => Some(word),
+        _ => None,
+    }
 }

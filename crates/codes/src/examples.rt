@@ -7,19 +7,29 @@ use crate::verdict::Verdict;
 
 #[derive(Clone, Copy)]
 pub enum Example {
-    // The checks of a word.
-    Checks {
-        code: CodeName,
-        word: u16,
-        checks: u8,
-    },
-    // The judgement of the cell that holds these data and checks.
-    Judged {
-        code: CodeName,
-        stored: u16,
-        checks: u8,
-        verdict: Verdict,
-        word: u16,
-        syndrome: u8,
-    },
+    // A word and its checks.
+    Checks(CodeName, u16, u8),
+    // The data and checks of a cell, and its judgement: verdict, word and syndrome.
+    Judged(CodeName, u16, u8, Verdict, u16, u8),
+}
+
+// The worked examples, all of which hold.
+pub fn worked_examples() -> [Example; 12]
+    ensures listed { λ r. ⌜ r ≡ worked-examples ⌝ }
+    ensures hold { λ r. ⌜ All Holds r ⌝ }
+{
+    [
+        Example::Checks(CodeName::Am2960, 0, 12),
+        Example::Checks(CodeName::Am2960, 65535, 12),
+        Example::Checks(CodeName::Am2960, 1, 2),
+        Example::Checks(CodeName::Am2960, 512, 41),
+        Example::Checks(CodeName::Parity, 0, 3),
+        Example::Checks(CodeName::Parity, 1, 2),
+        Example::Judged(CodeName::Am2960, 512, 12, Verdict::Mended, 0, 37),
+        Example::Judged(CodeName::Am2960, 0, 13, Verdict::Mended, 0, 1),
+        Example::Judged(CodeName::Am2960, 3, 12, Verdict::Bad, 3, 5),
+        Example::Judged(CodeName::Am2960, 0, 0, Verdict::Bad, 0, 12),
+        Example::Judged(CodeName::Am2960, 3, 14, Verdict::Mended, 3, 7),
+        Example::Judged(CodeName::Parity, 1, 3, Verdict::Bad, 1, 1),
+    ]
 }
