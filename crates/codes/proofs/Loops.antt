@@ -14,7 +14,7 @@ use Rattle.std.proofs.shelf.Lists.{drop-all}
 use Rattle.codes.specs.Columns.{folded-columns, named-bit}
 
 -- what is left of a list from place i on, by its first element
-rest-at : (cs : List ℕ) (i : ℕ) → i < length cs → drop i cs ≡ getD cs i 0 ∷ drop (i + 1) cs
+pub rest-at : (cs : List ℕ) (i : ℕ) → i < length cs → drop i cs ≡ getD cs i 0 ∷ drop (i + 1) cs
 rest-at cs i h = drop-cons cs i 0 h ∙ ap (λ (k : ℕ). getD cs i 0 ∷ drop k cs) (sym (add-one i))
 
 pub folded-more

@@ -7,8 +7,8 @@ returns-in-Sound g c =
     let law = g .C·Code·met .lawful in
     record {
       exact =
-        word-encoded word-bits most-checks (g .C·Code .meaning) law (c .args .cell) (c .judge-verdict .result) (c .judge-verdict .ensures)
-        (c .in-Sound .is);
+          word-encoded word-bits most-checks (g .C·Code .meaning) law (c .args .cell) (c .judge-verdict .result) (c .judge-verdict .ensures)
+          (c .in-Sound .is);
       sound = sound-is-encoding word-bits most-checks (g .C·Code .meaning) law;
     }
 
@@ -17,7 +17,7 @@ returns-in-rest g c =
     let law = g .C·Code·met .lawful in
     record {
       exact =
-        none-encoded word-bits most-checks (g .C·Code .meaning) law (c .args .cell) (c .judge-verdict .result) (c .judge-verdict .ensures)
-        (c .in-rest .not-Sound);
+          none-encoded word-bits most-checks (g .C·Code .meaning) law (c .args .cell) (c .judge-verdict .result) (c .judge-verdict .ensures)
+          (c .in-rest .not-Sound);
       sound = sound-is-encoding word-bits most-checks (g .C·Code .meaning) law;
     }
