@@ -2,10 +2,12 @@
 -- Assumes nothing.
 use Prim.Native.Nat.{ℕ, _<_, _^_}
 use mathlib.Core.Path.{_≡_, sym, ap, _∙_, subst}
-use lib.Bits.{bitXor}
-use Rattle.codes.specs.Cells.{Judgement, Coding, data-of, checks-of, places-of, cell-of, encoding}
+use native.Mathlib.Omega.{arith}
+use Rattle.std.specs.Options.{Cases as BySome}
+use Rattle.codes.specs.Cells.{Judgement, Coding, data-of, checks-of, places-of, cell-of, encoding, if-sound}
 use Rattle.codes.specs.Law.{Lawful, Encodes, Sound-is-encoding}
-use Rattle.codes.specs.declared.verdict.Verdict.the-variants.{Sound}
+use Rattle.codes.specs.declared.verdict.Verdict.{Verdict}
+use Rattle.codes.specs.declared.verdict.Verdict.the-variants.{Sound, Mended, Bad}
 use Rattle.codes.proofs.Fields.{data-below, places-parts}
 use Rattle.codes.proofs.Ones.{xor-apart}
 
@@ -28,9 +30,15 @@ module _ (b most : ℕ) (code : Coding) (law : Lawful b most code) where
   pub sound-is-encoding : Sound-is-encoding b code
   sound-is-encoding = (encodes-judged, sound-encodes)
 
-  -- the word of a sound judgement is encoded in the cell, and in a cell of another judgement none is
-  pub word-encoded : (cell : ℕ) (j : Judgement) → j ≡ code .judged cell → j .0 ≡ Sound → Encodes b code cell (j .1)
-  word-encoded cell j is sound = subst (λ v. Encodes b code cell (v .1)) (sym is) (sound-encodes cell (sym (ap (λ v. v .0) is) ∙ sound))
-
-  pub none-encoded : (cell : ℕ) (j : Judgement) → j ≡ code .judged cell → (j .0 ≡ Sound → ⊥) → (word : ℕ) → Encodes b code cell word → ⊥
-  none-encoded cell j is other word e = other (ap (λ v. v .0) (is ∙ encodes-judged cell word e))
+  -- the word of the judgement, if it is sound, is the one that the cell encodes
+  pub word-exact
+      : (cell : ℕ) (j : Judgement) → j ≡ code .judged cell
+      → BySome (if-sound (j .0) (j .1)) ((word : ℕ) → Encodes b code cell word → ⊥) (Encodes b code cell)
+  word-exact cell j is = go (j .0) (j .1) (ap (λ v. v .0) is) (ap (λ v. v .1) is)
+    where
+      go
+          : (v : Verdict) (w : ℕ) → v ≡ code .judged cell .0 → w ≡ code .judged cell .1
+          → BySome (if-sound v w) ((word : ℕ) → Encodes b code cell word → ⊥) (Encodes b code cell)
+      go Sound w ev ew = subst (Encodes b code cell) (sym ew) (sound-encodes cell (sym ev))
+      go Mended w ev ew = λ word e. let same = ev ∙ ap (λ x. x .0) (encodes-judged cell word e) in let z : _≡_ {A = ℕ} 0 1 = cc in omega arith
+      go Bad w ev ew = λ word e. let same = ev ∙ ap (λ x. x .0) (encodes-judged cell word e) in let z : _≡_ {A = ℕ} 0 1 = cc in omega arith

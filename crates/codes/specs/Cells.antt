@@ -3,7 +3,10 @@
 -- Assumes nothing.
 use Prim.Native.Nat.{ℕ, _+_, _*_, _/_, _%_, _^_}
 use lib.Bits.{bitXor}
+use Rattle.std.specs.declared.option.Option.{Option}
+use Rattle.std.specs.declared.option.Option.the-variants.{Some, None}
 use Rattle.codes.specs.declared.verdict.Verdict.{Verdict}
+use Rattle.codes.specs.declared.verdict.Verdict.the-variants.{Sound, Mended, Bad}
 
 -- the data bits of our cells, and the most check bits that a code may have there
 abbrev pub word-bits : ℕ
@@ -35,6 +38,12 @@ syndrome-of b k checks cell = bitXor (checks (data-of b cell)) (checks-of b k ce
 -- what judging answers: the verdict, the data and the syndrome
 abbrev pub Judgement : Type 0
 Judgement = Verdict × ℕ × ℕ
+
+-- the word, where the verdict is sound
+abbrev pub if-sound : Verdict → ℕ → Option ℕ
+if-sound Sound word = Some word
+if-sound Mended word = None
+if-sound Bad word = None
 
 -- What a code means. Its figures never change, its checks hang on the word alone, its judgement on the cell alone.
 pub record Coding : Type 0 where

@@ -2,21 +2,23 @@
 ghost use mathlib.Core.Path.{_≡_};
 ghost use Prim.Native.Nat.{ℕ, _≤_};
 ghost use Rattle.std.specs.Options.{Cases as BySome};
-ghost use Rattle.codes.specs.Cells.{word-bits, cell-of, data-of, checks-of, encoding};
+ghost use Rattle.codes.specs.Cells.{word-bits, cell-of, data-of, checks-of, encoding, if-sound};
 ghost use Rattle.codes.specs.Law.{Encodes, Sound-is-encoding};
+use crate::bits::join_bits;
+use crate::bits::low_bits;
 use crate::code::Code;
 use crate::verdict::Verdict;
 
 pub fn pack(word: u16, checks: u8) -> u32
     ensures { λ r. ⌜ r ≡ cell-of word-bits word checks ⌝ }
 {
-    (u32::from(checks) << 16) | u32::from(word)
+    join_bits(u32::from(checks), u32::from(word), 16)
 }
 
 pub fn data_of(cell: u32) -> u16
     ensures { λ r. ⌜ r ≡ data-of word-bits cell ⌝ }
 {
-    (cell & 0xffff) as u16
+    low_bits(cell, 16) as u16
 }
 
 // The low `width` bits of the checks.
@@ -24,7 +26,7 @@ pub(crate) fn checks_of(cell: u32, width: u32) -> u8
     requires { ⌜ width ≤ 8 ⌝ }
     ensures { λ r. ⌜ r ≡ checks-of word-bits width cell ⌝ }
 {
-    ((cell >> 16) & ((1 << width) - 1)) as u8
+    low_bits(cell >> 16, width) as u8
 }
 
 pub fn encode<C: Code>(word: u16) -> u32
@@ -46,9 +48,14 @@ pub fn encoded_word<C: Code>(cell: u32) -> Option<u16>
     ensures exact { λ r. ⌜ BySome r ((word : ℕ) → Encodes word-bits (C·Code .meaning) cell word → ⊥) (λ word. Encodes word-bits (C·Code .meaning) cell word) ⌝ }
     ensures sound { λ _. ⌜ Sound-is-encoding word-bits (C·Code .meaning) ⌝ }
 {
-    let (verdict, word, _) = C::judge(cell);
-    match verdict {
-        Verdict::Sound => Some(word),
+    sound_word(C::judge(cell))
+}
+
+fn sound_word(judgement: (Verdict, u16, u8)) -> Option<u16>
+    ensures { λ r. ⌜ r ≡ if-sound (judgement .0) (judgement .1) ⌝ }
+{
+    match judgement.0 {
+        Verdict::Sound => Some(judgement.1),
         _ => None,
     }
 }

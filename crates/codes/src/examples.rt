@@ -18,6 +18,12 @@ pub fn worked_examples() -> [Example; 12]
     ensures listed { λ r. ⌜ r ≡ worked-examples ⌝ }
     ensures hold { λ r. ⌜ All Holds r ⌝ }
 {
+    table()
+}
+
+fn table() -> [Example; 12]
+    ensures { λ r. ⌜ r ≡ worked-examples ⌝ }
+{
     [
         Example::Checks(CodeName::Am2960, 0, 12),
         Example::Checks(CodeName::Am2960, 65535, 12),

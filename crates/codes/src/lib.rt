@@ -1,5 +1,6 @@
 // Check codes: what a code is, the law that every code keeps, and two codes that keep it.
 mod am2960;
+mod bits;
 mod cells;
 mod code;
 mod columns;

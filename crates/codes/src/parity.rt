@@ -1,7 +1,8 @@
 // Byte parity: a check bit for each byte, nothing mended, one struck place found.
 ghost use mathlib.Core.Path.{_≡_};
-ghost use Prim.Native.Nat.{_<_, _^_};
 ghost use Rattle.codes.specs.Parity.{byte-parity, odd-parity};
+use crate::bits::join_bits;
+use crate::bits::low_bits;
 use crate::cells::checks_of;
 use crate::cells::data_of;
 use crate::code::Code;
@@ -24,7 +25,8 @@ pub impl Code for ByteParity as ByteParityCode {
     }
 
     fn checks(word: u16) -> u8 {
-        (parity_of(word >> 8) << 1) | parity_of(word & 0xff)
+        let word = u32::from(word);
+        join_bits(parity_of(word >> 8), parity_of(low_bits(word, 8)), 1) as u8
     }
 
     fn judge(cell: u32) -> (Verdict, u16, u8) {
@@ -39,8 +41,8 @@ pub impl Code for ByteParity as ByteParityCode {
 }
 
 // The bit that makes the ones of the byte and itself odd.
-fn parity_of(byte: u16) -> u8
+fn parity_of(byte: u32) -> u32
     ensures { λ r. ⌜ r ≡ odd-parity byte ⌝ }
 {
-    ((byte.count_ones() + 1) % 2) as u8
+    (byte.count_ones() + 1) % 2
 }
