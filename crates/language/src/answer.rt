@@ -1,0 +1,47 @@
+// What an act answers, and how that is said.
+ghost use Rattle.std.specs.declared.option.Option.the-variants.{Some};
+ghost use mathlib.Core.Path.{_≡_};
+ghost use Rattle.language.specs.Texts.{verdict-text, answer-text};
+use codes::Verdict;
+use std::fmt;
+
+#[derive(Clone, Copy)]
+pub enum Answer {
+    Checks {
+        checks: u8,
+    },
+    Judgement {
+        verdict: Verdict,
+        word: u16,
+        syndrome: u8,
+    },
+}
+
+// One line of text, without its end.
+pub impl fmt::Display for Answer as AnswerDisplay {
+    ghost shown = { λ a. Some (answer-text a) };
+
+    fn fmt<W: fmt::Write>(&self, f: &mut fmt::Formatter<W>) -> fmt::Result {
+        match *self {
+            Answer::Checks { checks } => write!(f, "checks {checks}"),
+            Answer::Judgement {
+                verdict,
+                word,
+                syndrome,
+            } => {
+                let said = verdict_text(verdict);
+                write!(f, "{said} {word} syndrome {syndrome}")
+            }
+        }
+    }
+}
+
+fn verdict_text(verdict: Verdict) -> &'static str
+    ensures { λ r. ⌜ now r ≡ verdict-text verdict ⌝ }
+{
+    match verdict {
+        Verdict::Sound => "sound",
+        Verdict::Mended => "mended",
+        Verdict::Bad => "bad",
+    }
+}
