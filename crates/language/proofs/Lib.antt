@@ -1,3 +1,4 @@
 pub mod Lines
 pub mod Numerals
+pub mod Acts
 pub mod Texts

@@ -27,45 +27,51 @@ abbrev pub told : {T : Type 0} → Result T Wrong → Result T Mistake
 told (Ok x) = Ok x
 told (Err w) = Err (w .expected, w .found .now)
 
--- goes on where there is no mistake
+-- the first mistake, or what comes next
 abbrev pub and-then : {T U : Type 0} → Result T Mistake → (T → Result U Mistake) → Result U Mistake
 and-then (Ok x) next = next x
 and-then (Err m) next = Err m
 
-abbrev pub or-mistake : {T : Type 0} → Option T → Mistake → Result T Mistake
-or-mistake (Some x) m = Ok x
-or-mistake None m = Err m
-
--- the code of that name
-abbrev pub named : List ℕ → Result CodeName Mistake
-named w = cond (sameBytes w (codes "am2960")) (Ok Am2960) (cond (sameBytes w (codes "parity")) (Ok Parity) (Err (expected.CodeName, w)))
-
--- the number that a word writes, which has a limit
+-- the number that a word writes, up to a limit
 abbrev pub numbered : ℕ → List ℕ → Result ℕ Mistake
-numbered most w = or-mistake (at-most most (written w)) (expected.Number most, w)
+numbered most w = elim (at-most most (written w)) [ Some n ↦ Ok n | None ↦ Err (expected.Number most, w) ]
+
+-- the code that a word names
+abbrev pub named : List ℕ → Result CodeName Mistake
+named w =
+    cond (sameBytes w (codes "am2960")) (Ok Am2960)
+    (cond (sameBytes w (codes "parity")) (Ok Parity)
+    (Err (expected.CodeName, w)))
 
 -- the act, where no word is left
 abbrev pub ended : Act → List (List ℕ) → Result Act Mistake
 ended a [] = Ok a
 ended a (w ∷ ws) = Err (expected.End, w)
 
--- the largest data word, and the largest check bits
+-- the largest word of data
 abbrev pub most-word : ℕ
 most-word = 65535
 
+-- the largest check bits of a cell
 abbrev pub most-checks : ℕ
 most-checks = 63
 
--- the words after each keyword
+-- what the words after `code` ask for
 abbrev pub code-act : List (List ℕ) → Result Act Mistake
 code-act ws = and-then (named (first ws)) (λ name. ended (act.Code name) (others ws))
 
+-- what the words after `checks` ask for
 abbrev pub checks-act : List (List ℕ) → Result Act Mistake
 checks-act ws = and-then (numbered most-word (first ws)) (λ word. ended (act.Checks word) (others ws))
 
+-- what the words after `judge` ask for
 abbrev pub judge-act : List (List ℕ) → Result Act Mistake
-judge-act ws = and-then (numbered most-word (first ws)) (λ stored. and-then (numbered most-checks (first (others ws))) (λ checks. ended (act.Judge stored checks) (others (others ws))))
+judge-act ws =
+    and-then (numbered most-word (first ws)) (λ stored.
+    and-then (numbered most-checks (first (others ws))) (λ checks.
+    ended (act.Judge stored checks) (others (others ws))))
 
+-- what a keyword and the words after it ask for
 abbrev pub act-of : List ℕ → List (List ℕ) → Result Act Mistake
 act-of keyword ws =
     cond (sameBytes keyword (codes "code")) (code-act ws)
@@ -73,10 +79,11 @@ act-of keyword ws =
     (cond (sameBytes keyword (codes "judge")) (judge-act ws)
     (Err (expected.Act, keyword))))
 
--- what the words of a line ask for
+-- what the words of a line ask for, if there are any
 abbrev pub asked : List (List ℕ) → Result (Option Act) Mistake
 asked [] = Ok None
 asked (keyword ∷ ws) = and-then (act-of keyword ws) (λ a. Ok (Some a))
 
+-- what a line asks for
 abbrev pub parsed : List ℕ → Result (Option Act) Mistake
 parsed line = asked (words (uncommented line))

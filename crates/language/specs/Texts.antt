@@ -40,6 +40,7 @@ found-text (b ∷ bs) = joined escaped (b ∷ bs)
 abbrev pub wrong-text : ℕ → Wrong → List ℕ
 wrong-text line w = codes "line " ++ (decimal line ++ (codes ": expected " ++ (expected-text (w .expected) ++ (codes ", found " ++ found-text (w .found .now)))))
 
+-- what a code says of a cell
 abbrev pub verdict-text : Verdict → List ℕ
 verdict-text Sound = codes "sound"
 verdict-text Mended = codes "mended"

@@ -1,7 +1,10 @@
 // The acts that a line of a job can ask for.
 use codes::CodeName;
+use codes::CodeNameDebug;
+use codes::CodeNameEq;
+use codes::CodeNamePartialEq;
 
-#[derive(Clone, Copy)]
+#[derive(Clone, Copy, PartialEq, Eq, Debug)]
 pub enum Act {
     Code(CodeName),
     Checks { word: u16 },

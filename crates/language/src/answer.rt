@@ -3,9 +3,12 @@ ghost use Rattle.std.specs.declared.option.Option.the-variants.{Some};
 ghost use mathlib.Core.Path.{_≡_};
 ghost use Rattle.language.specs.Texts.{verdict-text, answer-text};
 use codes::Verdict;
+use codes::VerdictDebug;
+use codes::VerdictEq;
+use codes::VerdictPartialEq;
 use std::fmt;
 
-#[derive(Clone, Copy)]
+#[derive(Clone, Copy, PartialEq, Eq, Debug)]
 pub enum Answer {
     Checks {
         checks: u8,

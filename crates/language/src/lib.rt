@@ -11,8 +11,14 @@ mod words;
 mod wrong;
 
 pub use act::Act;
+pub use act::ActDebug;
+pub use act::ActEq;
+pub use act::ActPartialEq;
 pub use answer::Answer;
+pub use answer::AnswerDebug;
 pub use answer::AnswerDisplay;
+pub use answer::AnswerEq;
+pub use answer::AnswerPartialEq;
 pub use job::Job;
 pub use line::line_content;
 pub use numbers::number;

@@ -3,7 +3,7 @@ ghost use mathlib.Core.Path.{_≡_};
 ghost use Prim.Native.Nat.{_≤_};
 ghost use Rattle.std.specs.Vec.{made};
 ghost use Rattle.std.specs.shelf.Text.{sameBytes};
-ghost use Rattle.language.specs.Lines.{first, others, left};
+ghost use Rattle.language.specs.Lines.{left};
 ghost use Rattle.language.specs.Acts.{told, named, numbered, ended, act-of, parsed};
 ghost use Rattle.language.specs.Acts.{code-act, checks-act, judge-act};
 use crate::act::Act;

@@ -1,11 +1,15 @@
 // Lines, numbers and texts that a job meets.
 use crate::Act;
 use crate::Answer;
+use crate::AnswerDebug;
 use crate::AnswerDisplay;
+use crate::AnswerPartialEq;
 use crate::Expected;
+use crate::Job;
 use crate::Wrong;
 use crate::WrongDebug;
 use crate::WrongPartialEq;
+use crate::line_content;
 use crate::number;
 use crate::parse_line;
 use crate::wrong_text;
@@ -108,4 +112,45 @@ fn texts(rt: LibcRuntime) -> Result<(), Fail> {
     };
     let answer = format!(heap, "{judged}")?;
     check(answer.as_str() == "mended 65535 syndrome 63")
+}
+
+#[test]
+fn a_job_line_by_line() -> Result<(), Fail> {
+    let mut job = Job::new();
+    check_eq(
+        job.run_line(b"checks 1"),
+        Err(Wrong {
+            expected: Expected::CodeFirst,
+            found: b"checks",
+        }),
+    )?;
+    check_eq(job.run_line(b"code am2960"), Ok(None))?;
+    check_eq(
+        job.run_line(b"checks 512"),
+        Ok(Some(Answer::Checks { checks: 41 })),
+    )?;
+    let mended = Answer::Judgement {
+        verdict: Verdict::Mended,
+        word: 512,
+        syndrome: 37,
+    };
+    check_eq(job.run_line(b"judge 0 41"), Ok(Some(mended)))?;
+    check(job.run_line(b"code parity x").is_err())?;
+    check_eq(job.run_line(b"judge 0 41"), Ok(Some(mended)))?;
+    check_eq(job.run_line(b"code parity"), Ok(None))?;
+    check_eq(
+        job.run_line(b"checks 0"),
+        Ok(Some(Answer::Checks { checks: 3 })),
+    )
+}
+
+#[test]
+fn ends_of_lines() -> Result<(), Fail> {
+    for line in [b"a".as_slice(), b"a\n", b"a\r\n"] {
+        check_eq(line_content(line), b"a")?;
+    }
+    for line in [b"".as_slice(), b"\n", b"\r\n"] {
+        check_eq(line_content(line), b"")?;
+    }
+    check_eq(line_content(b"a\n\r"), b"a\n\r")
 }
