@@ -1,1 +1,6 @@
 pub mod Faults
+pub mod Meaning
+pub mod Memory
+pub mod Layers
+pub mod Proper
+pub mod Banks
