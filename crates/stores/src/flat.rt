@@ -3,7 +3,7 @@ ghost use denote.Ref.{now, name};
 ghost use mathlib.Core.Path.{_≡_};
 ghost use Rattle.stores.specs.Layers.{flat as flatMeaning, flat-count};
 ghost use Rattle.stores.specs.Meaning.{content-bits};
-ghost use Rattle.stores.specs.Memory.{outside-cells};
+ghost use Rattle.stores.specs.Memory.{outside-cells, above};
 ghost use Rattle.stores.specs.Proper.{flat-proper};
 use crate::bench::Bench;
 use crate::bits::with_low_bits;
@@ -34,7 +34,7 @@ impl<'a> Flat<'a> {
 pub impl Store for Flat<'_> as FlatStore {
     ghost meaning = { λ s. flatMeaning (now (s .cells)) };
 
-    ghost outside = { λ s. outside-cells content-bits (flat-count (now (s .cells))) (name (s .cells)) (now (s .cells)) };
+    ghost outside = { λ s. outside-cells (above content-bits) (flat-count (now (s .cells))) (name (s .cells)) (now (s .cells)) };
 
     ghost proper = { λ s. flat-proper (now (s .cells)) };
 
