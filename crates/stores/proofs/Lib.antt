@@ -1,2 +1,4 @@
 pub mod Changes
 pub mod Elements
+pub mod BankLoops
+pub mod MapCells

@@ -4,3 +4,4 @@ pub mod Memory
 pub mod Layers
 pub mod Proper
 pub mod Banks
+pub mod Maps

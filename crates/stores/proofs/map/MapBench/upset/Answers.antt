@@ -1,0 +1,17 @@
+use lib.Bits.{bitXor}
+use Rattle.stores.specs.Maps.{count-of, banks-of}
+use Rattle.stores.proofs.MapCells.{mapped-granted}
+use Rattle.stores.proofs.map.MapBench.upset.Needs as need
+
+pub returns-in-Some : need.returns-in-Some
+returns-in-Some g c =
+    let store = g .S·Store in
+    let map = c .args .self .now .map in
+    let old = c .args .self .now .below in
+    let below = c .upset .ensures in
+    let done =
+    mapped-granted (count-of map) (banks-of map) (store .meaning old) _ (store .proper old) (c .args .cell) (c .in-Some .below) (c .args .mask)
+    (c .count .result) (λ old. bitXor old (c .args .mask)) (c .upset .result) (c .count .ensures) (c .in-Continue-test-write .ensures tt) (c .in-Some .ensures tt)
+    (below .answers) (below .leaves)
+    in
+    record { answers = done .0; leaves = done .1; keeps = below .keeps }
