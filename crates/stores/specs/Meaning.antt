@@ -2,9 +2,10 @@
 -- Assumes nothing.
 use Prim.Native.Nat.{ℕ, _≤_, _<_}
 use mathlib.Core.Path.{_≡_}
-use mathlib.Core.Bool.{cond}
+use mathlib.Core.Bool.{true, cond}
 use lib.Dec.{ltb, eqb}
 use lib.Bits.{bitXor}
+use Rattle.std.specs.Results.{isOk}
 use Rattle.std.specs.declared.result.Result.{Result}
 use Rattle.std.specs.declared.result.Result.the-variants.{Ok, Err}
 use Rattle.stores.specs.declared.fault.Cause.the-variants.{PastCount, TooWide}
@@ -71,3 +72,14 @@ written m cell content = changed m cell (λ old. content) (write-answer m cell c
 -- after an upset the bits that the mask names are inverted, if a write of the mask would be granted; else nothing is altered
 abbrev pub upset-by : Meaning → ℕ → ℕ → Meaning
 upset-by m cell mask = changed m cell (λ old. bitXor old mask) (write-answer m cell mask) (m .at cell)
+
+-- the same layer, count and faults, and the same cells fitted
+pub record Same-frame (m n : Meaning) : Type 0 where
+  pub layer : n .layer ≡ m .layer
+  pub count : n .count ≡ m .count
+  pub faults : (cell : ℕ) (f : Fault) → m .at cell ≡ Err f → n .at cell ≡ Err f
+  pub fitted : (cell content : ℕ) → m .at cell ≡ Ok content → isOk (n .at cell) ≡ true
+
+-- no write and no upset changes the layer number, the count or a fault
+abbrev pub Frame-stays : Meaning → Type 0
+Frame-stays m = (cell number : ℕ) → Same-frame m (written m cell number) × Same-frame m (upset-by m cell number)
