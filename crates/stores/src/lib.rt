@@ -11,6 +11,8 @@ mod pair;
 mod refusal;
 mod split;
 mod store;
+#[cfg(test)]
+mod tests;
 
 pub use bank::Bank;
 pub use bank::BankDebug;

@@ -14,26 +14,26 @@ use crate::store::Store;
 const LAYER: u8 = 3;
 
 #[derive(Drop)]
-pub struct Map<S: Store> {
-    map: BankMap,
+pub struct Map<'m, S: Store> {
+    map: &'m BankMap,
     below: S,
 }
 
-impl<S: Store> Map<S> {
-    pub fn new(map: BankMap, below: S) -> Map<S>
-        ensures map { λ r. ⌜ r .map ≡ map ⌝ }
+impl<'m, S: Store> Map<'m, S> {
+    pub fn new(map: &'m BankMap, below: S) -> Map<'m, S>
+        ensures map { λ r. ⌜ now (r .map) ≡ now (map .entry) ⌝ }
         ensures below { λ r. ⌜ r .below ≡ below ⌝ }
     {
         Map { map, below }
     }
 }
 
-pub impl<S: Store> Store for Map<S> as MapStore {
-    ghost meaning = { λ m. mapped (m .map) (S·Store .meaning (m .below)) };
+pub impl<S: Store> Store for Map<'_, S> as MapStore {
+    ghost meaning = { λ m. mapped (now (m .map)) (S·Store .meaning (m .below)) };
 
     ghost outside = { λ m. S·Store .outside (m .below) };
 
-    ghost proper = { λ m. mapped-proper (m .map) (S·Store .meaning (m .below)) (S·Store .proper (m .below)) };
+    ghost proper = { λ m. mapped-proper (now (m .map)) (S·Store .meaning (m .below)) (S·Store .proper (m .below)) };
 
     fn count(&self) -> u32 {
         self.map.count()
@@ -62,7 +62,7 @@ pub impl<S: Store> Store for Map<S> as MapStore {
     }
 }
 
-pub impl<S: Bench> Bench for Map<S> as MapBench {
+pub impl<S: Bench> Bench for Map<'_, S> as MapBench {
     fn upset(&mut self, cell: u32, mask: u32) -> Result<(), Fault> {
         test_write(LAYER, self.map.count(), cell, mask)?;
         match self.map.cell_below(cell) {

@@ -6,7 +6,7 @@ use Rattle.stores.proofs.map.MapBench.upset.Needs as need
 pub returns-in-Some : need.returns-in-Some
 returns-in-Some g c =
     let store = g .S·Store in
-    let map = c .args .self .now .map in
+    let map = c .args .self .now .map .now in
     let old = c .args .self .now .below in
     let below = c .upset .ensures in
     let done =
