@@ -1,4 +1,5 @@
 pub mod Lines
 pub mod Numerals
 pub mod Acts
+pub mod Banks
 pub mod Texts

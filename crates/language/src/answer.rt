@@ -7,6 +7,10 @@ use codes::VerdictDebug;
 use codes::VerdictEq;
 use codes::VerdictPartialEq;
 use std::fmt;
+use stores::Fault;
+use stores::FaultDebug;
+use stores::FaultEq;
+use stores::FaultPartialEq;
 
 #[derive(Clone, Copy, PartialEq, Eq, Debug)]
 pub enum Answer {
@@ -17,6 +21,14 @@ pub enum Answer {
         verdict: Verdict,
         word: u16,
         syndrome: u8,
+    },
+    Struck,
+    Content {
+        content: u32,
+    },
+    Faulted(Fault),
+    Refused {
+        number: u8,
     },
 }
 
@@ -35,6 +47,13 @@ pub impl fmt::Display for Answer as AnswerDisplay {
                 let said = verdict_text(verdict);
                 write!(f, "{said} {word} syndrome {syndrome}")
             }
+            Answer::Struck => write!(f, "struck"),
+            Answer::Content { content } => write!(f, "content {content}"),
+            Answer::Faulted(Fault { cause, layer, cell }) => {
+                let number = cause.number();
+                write!(f, "fault cause {number} layer {layer} cell {cell}")
+            }
+            Answer::Refused { number } => write!(f, "refused {number}"),
         }
     }
 }

@@ -1,13 +1,14 @@
 // A line as the act that it asks for.
 ghost use mathlib.Core.Path.{_≡_};
-ghost use Prim.Native.Nat.{_≤_};
-ghost use Rattle.std.specs.Vec.{made};
-ghost use Rattle.std.specs.shelf.Text.{sameBytes};
 ghost use Rattle.language.specs.Lines.{left};
-ghost use Rattle.language.specs.Acts.{told, named, numbered, ended, act-of, parsed};
-ghost use Rattle.language.specs.Acts.{code-act, checks-act, judge-act};
+ghost use Rattle.language.specs.Acts.{told, named, act-of, parsed};
+ghost use Rattle.language.specs.Acts.{code-act, checks-act, judge-act, strike-act, cell-act};
 use crate::act::Act;
-use crate::numbers::number;
+use crate::parts::MOST_NUMBER;
+use crate::parts::bounded;
+use crate::parts::ended;
+use crate::parts::is;
+use crate::store_line::store_act;
 use crate::words::Words;
 use crate::wrong::Expected;
 use crate::wrong::Wrong;
@@ -34,10 +35,16 @@ fn act_after<'a>(keyword: &'a [u8], words: Words<'a>) -> Result<Act, Wrong<'a>>
 {
     if is(keyword, "code") {
         code_act(words)
+    } else if is(keyword, "store") {
+        store_act(words)
     } else if is(keyword, "checks") {
         checks_act(words)
     } else if is(keyword, "judge") {
         judge_act(words)
+    } else if is(keyword, "strike") {
+        strike_act(words)
+    } else if is(keyword, "cell") {
+        cell_act(words)
     } else {
         Err(Wrong {
             expected: Expected::Act,
@@ -68,10 +75,19 @@ fn judge_act<'a>(mut words: Words<'a>) -> Result<Act, Wrong<'a>>
     ended(Act::Judge { data, checks }, words)
 }
 
-fn is(word: &[u8], text: &str) -> bool
-    ensures { λ r. ⌜ r ≡ sameBytes (now (word .entry)) (now (text .entry)) ⌝ }
+fn strike_act<'a>(mut words: Words<'a>) -> Result<Act, Wrong<'a>>
+    ensures { λ r. ⌜ told r ≡ strike-act (left (words .entry)) ⌝ }
 {
-    word == text.as_bytes()
+    let cell = bounded(words.next_word(), MOST_NUMBER)?;
+    let mask = bounded(words.next_word(), MOST_NUMBER)?;
+    ended(Act::Strike { cell, mask }, words)
+}
+
+fn cell_act<'a>(mut words: Words<'a>) -> Result<Act, Wrong<'a>>
+    ensures { λ r. ⌜ told r ≡ cell-act (left (words .entry)) ⌝ }
+{
+    let cell = bounded(words.next_word(), MOST_NUMBER)?;
+    ended(Act::Cell { cell }, words)
 }
 
 fn code_name<'a>(word: &'a [u8]) -> Result<CodeName, Wrong<'a>>
@@ -84,34 +100,6 @@ fn code_name<'a>(word: &'a [u8]) -> Result<CodeName, Wrong<'a>>
     } else {
         Err(Wrong {
             expected: Expected::CodeName,
-            found: word,
-        })
-    }
-}
-
-fn bounded<'a>(word: &'a [u8], most: u32) -> Result<u32, Wrong<'a>>
-    ensures value { λ r. ⌜ told r ≡ numbered most (now (word .entry)) ⌝ }
-    ensures bound { λ r. ⌜ made r (λ n. n ≤ most) ⌝ }
-{
-    match number(word, most) {
-        Some(value) => Ok(value),
-        None => Err(Wrong {
-            expected: Expected::Number { most },
-            found: word,
-        }),
-    }
-}
-
-// The act, where no word is left.
-fn ended<'a>(act: Act, mut words: Words<'a>) -> Result<Act, Wrong<'a>>
-    ensures { λ r. ⌜ told r ≡ ended act (left (words .entry)) ⌝ }
-{
-    let word = words.next_word();
-    if word.is_empty() {
-        Ok(act)
-    } else {
-        Err(Wrong {
-            expected: Expected::End,
             found: word,
         })
     }

@@ -4,8 +4,15 @@ use crate::Answer;
 use crate::AnswerDebug;
 use crate::AnswerDisplay;
 use crate::AnswerPartialEq;
+use crate::BankList;
+use crate::BankListPartialEq;
 use crate::Expected;
 use crate::Job;
+use crate::Make;
+use crate::Next;
+use crate::NextDebug;
+use crate::NextPartialEq;
+use crate::StoreJob;
 use crate::Wrong;
 use crate::WrongDebug;
 use crate::WrongPartialEq;
@@ -16,6 +23,13 @@ use crate::wrong_text;
 use codes::CodeName;
 use codes::Verdict;
 use std::test::*;
+use stores::Bank;
+use stores::BankDebug;
+use stores::BankPartialEq;
+use stores::Cause;
+use stores::Fault;
+use stores::Flat;
+use stores::FlatBench;
 
 fn mistake(line: &[u8]) -> Option<Wrong<'_>> {
     match parse_line(line) {
@@ -50,6 +64,91 @@ fn good_lines() -> Result<(), Fail> {
         }))
     ))?;
     check(matches!(parse_line(b" \t # code am2960"), Ok(None)))
+}
+
+#[test]
+fn good_lines_of_stores() -> Result<(), Fail> {
+    check(matches!(
+        parse_line(b"store flat 4294967295"),
+        Ok(Some(Act::Store(Make::Flat { cells: 4294967295 })))
+    ))?;
+    check(matches!(
+        parse_line(b"store split 0"),
+        Ok(Some(Act::Store(Make::Split { cells: 0 })))
+    ))?;
+    check(matches!(
+        parse_line(b"store pair 1 0o10"),
+        Ok(Some(Act::Store(Make::Pair {
+            first: 1,
+            second: 8
+        })))
+    ))?;
+    check(matches!(
+        parse_line(b"store banks 1 2 3"),
+        Ok(Some(Act::Store(Make::Banks {
+            first: 1,
+            second: 2,
+            count: 3,
+            banks: BankList { used: 0, .. }
+        })))
+    ))?;
+    check(matches!(
+        parse_line(b"strike 1500 512"),
+        Ok(Some(Act::Strike {
+            cell: 1500,
+            mask: 512
+        }))
+    ))?;
+    check(matches!(parse_line(b"cell 7"), Ok(Some(Act::Cell { cell: 7 }))))
+}
+
+// The banks of a map line, or none where it is no such line.
+fn banks(line: &[u8]) -> Option<BankList> {
+    match parse_line(line) {
+        Ok(Some(Act::Store(Make::Map { banks, .. }))) => Some(banks),
+        _ => None,
+    }
+}
+
+#[test]
+fn lists_of_banks() -> Result<(), Fail> {
+    let one = banks(b"store map 9 8 7 6").ok_or("no map")?;
+    check_eq(one.used, 1)?;
+    let bank = Bank {
+        offset: 7,
+        length: 6,
+    };
+    check_eq(one.banks[0], bank)?;
+    let none = Bank {
+        offset: 0,
+        length: 0,
+    };
+    check_eq(one.banks[1], none)?;
+    let nine = banks(b"store map 9 9 1 1 2 1 3 1 4 1 5 1 6 1 7 1 8 1 9 1").ok_or("no map")?;
+    check_eq(nine.used, 9)?;
+    check_eq(nine.banks[8].offset, 9)?;
+    let ten = banks(b"store map 9 9 1 1 2 1 3 1 4 1 5 1 6 1 7 1 8 1 9 1 10 1").ok_or("no map")?;
+    check(ten == nine)
+}
+
+#[test]
+fn mistakes_of_stores() -> Result<(), Fail> {
+    let number = Expected::Number { most: 4294967295 };
+    check_eq(mistake(b"store"), wrong(Expected::Make, b""))?;
+    check_eq(mistake(b"store Flat 1"), wrong(Expected::Make, b"Flat"))?;
+    check_eq(
+        mistake(b"store flat 4294967296"),
+        wrong(number, b"4294967296"),
+    )?;
+    check_eq(mistake(b"store flat 1 2"), wrong(Expected::End, b"2"))?;
+    check_eq(mistake(b"store map 1 2 3 x y"), wrong(number, b"x"))?;
+    check_eq(mistake(b"store map 1 2 3"), wrong(number, b""))?;
+    check_eq(
+        mistake(b"store map 1 1 1 1 1 1 1 1 1 1 1 1 1 1 1 1 1 1 1 1 1 x"),
+        wrong(number, b"x"),
+    )?;
+    check_eq(mistake(b"strike 1"), wrong(number, b""))?;
+    check_eq(mistake(b"cell 1 2"), wrong(Expected::End, b"2"))
 }
 
 #[test]
@@ -104,30 +203,63 @@ fn texts(rt: LibcRuntime) -> Result<(), Fail> {
             found: b"",
         },
     )?;
-    check(ended.as_str() == "line 1: expected code, checks or judge, found the end of the line")?;
+    check(
+        ended.as_str()
+            == "line 1: expected code, store, checks, judge, strike or cell, found the end of the line",
+    )?;
     let judged = Answer::Judgement {
         verdict: Verdict::Mended,
         word: 65535,
         syndrome: 63,
     };
     let answer = format!(heap, "{judged}")?;
-    check(answer.as_str() == "mended 65535 syndrome 63")
+    check(answer.as_str() == "mended 65535 syndrome 63")?;
+    let faulted = Answer::Faulted(Fault {
+        cause: Cause::NotFitted,
+        layer: 255,
+        cell: 4294967295,
+    });
+    let fault = format!(heap, "{faulted}")?;
+    check(fault.as_str() == "fault cause 3 layer 255 cell 4294967295")
 }
 
 #[test]
-fn a_job_line_by_line() -> Result<(), Fail> {
+fn the_head_of_a_job() -> Result<(), Fail> {
     let mut job = Job::new();
+    let code_first = Err(Wrong {
+        expected: Expected::CodeFirst,
+        found: b"store",
+    });
+    check_eq(job.run_line(b"store flat 6"), code_first)?;
+    check_eq(job.run_line(b"code am2960"), Ok(Next::Answered(None)))?;
+    let checks = Some(Answer::Checks { checks: 41 });
+    check_eq(job.run_line(b"checks 512"), Ok(Next::Answered(checks)))?;
+    check(job.run_line(b"code parity x").is_err())?;
+    check_eq(job.run_line(b"checks 512"), Ok(Next::Answered(checks)))?;
+    let store_first = Err(Wrong {
+        expected: Expected::StoreFirst,
+        found: b"cell",
+    });
+    check_eq(job.run_line(b"cell 1"), store_first)?;
+    let flat = Next::Store(CodeName::Am2960, Make::Flat { cells: 6 });
+    check_eq(job.run_line(b"store flat 6"), Ok(flat))
+}
+
+#[test]
+fn a_job_on_a_store() -> Result<(), Fail> {
+    let mut cells = [0; 6];
+    let mut job = StoreJob::new(CodeName::Am2960, Flat::new(&mut cells));
+    check_eq(job.run_line(b"strike 4 0o14"), Ok(Some(Answer::Struck)))?;
+    let content = Answer::Content { content: 12 };
+    check_eq(job.run_line(b"cell 4"), Ok(Some(content)))?;
+    let fault = Fault {
+        cause: Cause::PastCount,
+        layer: 1,
+        cell: 6,
+    };
     check_eq(
-        job.run_line(b"checks 1"),
-        Err(Wrong {
-            expected: Expected::CodeFirst,
-            found: b"checks",
-        }),
-    )?;
-    check_eq(job.run_line(b"code am2960"), Ok(None))?;
-    check_eq(
-        job.run_line(b"checks 512"),
-        Ok(Some(Answer::Checks { checks: 41 })),
+        job.run_line(b"strike 6 1"),
+        Ok(Some(Answer::Faulted(fault))),
     )?;
     let mended = Answer::Judgement {
         verdict: Verdict::Mended,
@@ -135,13 +267,11 @@ fn a_job_line_by_line() -> Result<(), Fail> {
         syndrome: 37,
     };
     check_eq(job.run_line(b"judge 0 41"), Ok(Some(mended)))?;
-    check(job.run_line(b"code parity x").is_err())?;
-    check_eq(job.run_line(b"judge 0 41"), Ok(Some(mended)))?;
-    check_eq(job.run_line(b"code parity"), Ok(None))?;
-    check_eq(
-        job.run_line(b"checks 0"),
-        Ok(Some(Answer::Checks { checks: 3 })),
-    )
+    let head_once = Err(Wrong {
+        expected: Expected::HeadOnce,
+        found: b"code",
+    });
+    check_eq(job.run_line(b"code parity"), head_once)
 }
 
 #[test]

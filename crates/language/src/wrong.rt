@@ -15,9 +15,12 @@ use std::fmt;
 pub enum Expected {
     Act,
     CodeName,
+    Make,
     Number { most: u32 },
     End,
     CodeFirst,
+    StoreFirst,
+    HeadOnce,
 }
 
 // What was expected, and the word that was found, which is empty where the line ended.
@@ -32,11 +35,14 @@ impl fmt::Display for Expected as ExpectedDisplay {
 
     fn fmt<W: fmt::Write>(&self, f: &mut fmt::Formatter<W>) -> fmt::Result {
         match *self {
-            Expected::Act => write!(f, "code, checks or judge"),
+            Expected::Act => write!(f, "code, store, checks, judge, strike or cell"),
             Expected::CodeName => write!(f, "am2960 or parity"),
+            Expected::Make => write!(f, "flat, split, pair, map or banks"),
             Expected::Number { most } => write!(f, "a number at most {most}"),
             Expected::End => write!(f, "the end of the line"),
             Expected::CodeFirst => write!(f, "a code line first"),
+            Expected::StoreFirst => write!(f, "a store line first"),
+            Expected::HeadOnce => write!(f, "code and store once each, in this order"),
         }
     }
 }

@@ -1,5 +1,6 @@
 // What ends the program early, and how that is said.
 use std::alloc::AllocError;
+use std::alloc::Global;
 use std::alloc::Refused;
 use std::fmt;
 use std::io;
@@ -13,6 +14,15 @@ pub(crate) enum Stop {
     // The answers cannot be written.
     Io(io::Error),
     Memory,
+}
+
+impl Stop {
+    pub(crate) fn unreadable(heap: Global, name: &str, error: io::Error) -> Stop {
+        match String::from_str(heap, name) {
+            Ok(name) => Stop::Unreadable(name, error),
+            Err(_) => Stop::Memory,
+        }
+    }
 }
 
 pub(crate) impl fmt::Display for Stop as StopDisplay {

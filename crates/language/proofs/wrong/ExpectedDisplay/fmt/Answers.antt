@@ -9,3 +9,6 @@ returns-in-CodeName g c = rw (c .in-CodeName .is) (search needs)
 
 pub returns-in-Number : need.returns-in-Number
 returns-in-Number g c = rw (c .in-Number .is) (search needs)
+
+pub returns-in-StoreFirst : need.returns-in-StoreFirst
+returns-in-StoreFirst g c = rw (c .in-StoreFirst .is) (search needs)
