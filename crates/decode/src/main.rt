@@ -1,9 +1,16 @@
 // Compares the syndrome decode table that the makers of the chip and of the memory print with what the Am2960 code answers,
-// at all 64 syndromes and all 65,536 words.
+// at all 64 syndromes and all 65,536 words; and reads every word back from its encoding under both codes.
 mod marks;
 
+use codes::Am2960;
+use codes::Am2960Code;
+use codes::ByteParity;
+use codes::ByteParityCode;
+use codes::Code;
 use codes::CodeName;
 use codes::VerdictPartialEq;
+use codes::encode;
+use codes::encoded_word;
 use codes::pack;
 use marks::Mark;
 use marks::meant_by;
@@ -40,6 +47,17 @@ fn compare(mark: Mark, syndrome: u8) -> Seen {
     Seen::Agrees
 }
 
+// How many words come back from their encoding.
+fn words_back<C: Code>() -> u32 {
+    let mut back = 0u32;
+    for word in 0..=0xffffu16 {
+        if encoded_word::<C>(encode::<C>(word)) == Some(word) {
+            back = back.saturating_add(1);
+        }
+    }
+    back
+}
+
 fn main(rt: LibcRuntime) -> Result<(), AnyError> {
     rt.report(run(&rt))
 }
@@ -69,8 +87,14 @@ fn run(rt: &LibcRuntime) -> Result<(), AnyError> {
         rt,
         "{agree} agree, {differ} differ, {left_out} are marked for more than two errors and not compared"
     )?;
-    if differ > 0 {
-        return Err("the code differs from the printed table".into());
+    let am2960 = words_back::<Am2960>();
+    let parity = words_back::<ByteParity>();
+    println!(
+        rt,
+        "words that come back from their encoding: {am2960} under am2960, {parity} under parity"
+    )?;
+    if differ > 0 || am2960 < 65536 || parity < 65536 {
+        return Err("the codes do not answer as they should".into());
     }
     Ok(())
 }

@@ -1,14 +1,8 @@
 // The acts that a line of a job can ask for.
 use crate::make::Make;
-use crate::make::MakeDebug;
-use crate::make::MakeEq;
-use crate::make::MakePartialEq;
 use codes::CodeName;
-use codes::CodeNameDebug;
-use codes::CodeNameEq;
-use codes::CodeNamePartialEq;
 
-#[derive(Clone, Copy, PartialEq, Eq, Debug)]
+#[derive(Clone, Copy)]
 pub enum Act {
     Code(CodeName),
     Store(Make),

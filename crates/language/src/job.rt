@@ -8,21 +8,12 @@ ghost use Rattle.language.specs.Acts.{told};
 ghost use Rattle.language.specs.Jobs.{said-of, line-given, line-left, checks-answer, judged-answer, performed, chosen-after};
 use crate::act::Act;
 use crate::answer::Answer;
-use crate::answer::AnswerDebug;
-use crate::answer::AnswerEq;
-use crate::answer::AnswerPartialEq;
 use crate::make::Make;
-use crate::make::MakeDebug;
-use crate::make::MakeEq;
-use crate::make::MakePartialEq;
 use crate::parse::parse_line;
 use crate::words::Words;
 use crate::wrong::Expected;
 use crate::wrong::Wrong;
 use codes::CodeName;
-use codes::CodeNameDebug;
-use codes::CodeNameEq;
-use codes::CodeNamePartialEq;
 use codes::pack;
 
 // It means the code that its lines have chosen, if any.
@@ -32,7 +23,7 @@ pub struct Job {
 }
 
 // What a line at the head of a job gives.
-#[derive(Clone, Copy, PartialEq, Eq, Debug)]
+#[derive(Clone, Copy)]
 pub enum Next {
     // An answer, or none.
     Answered(Option<Answer>),

@@ -5,16 +5,13 @@ ghost use lib.ListN.{take};
 ghost use Rattle.stores.specs.Maps.{made-map, new-map};
 ghost use Rattle.language.specs.Acts.{listed};
 use stores::Bank;
-use stores::BankDebug;
-use stores::BankEq;
 use stores::BankMap;
-use stores::BankPartialEq;
 use stores::NoMap;
 
 // A map has at most eight banks. A ninth already makes it none, so those after the ninth change nothing.
 pub(crate) const MOST_LISTED: usize = 9;
 
-#[derive(Clone, Copy, PartialEq, Eq, Debug)]
+#[derive(Clone, Copy)]
 pub enum Make {
     Flat {
         cells: u32,
@@ -43,7 +40,7 @@ pub enum Make {
 }
 
 // The first banks of a line, in its order. The places that are not used hold empty banks.
-#[derive(Clone, Copy, PartialEq, Eq, Debug)]
+#[derive(Clone, Copy)]
 pub struct BankList {
     pub banks: [Bank; MOST_LISTED],
     pub used: usize,

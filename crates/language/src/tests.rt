@@ -5,13 +5,10 @@ use crate::AnswerDebug;
 use crate::AnswerDisplay;
 use crate::AnswerPartialEq;
 use crate::BankList;
-use crate::BankListPartialEq;
 use crate::Expected;
 use crate::Job;
 use crate::Make;
 use crate::Next;
-use crate::NextDebug;
-use crate::NextPartialEq;
 use crate::StoreJob;
 use crate::Wrong;
 use crate::WrongDebug;
@@ -128,7 +125,8 @@ fn lists_of_banks() -> Result<(), Fail> {
     check_eq(nine.used, 9)?;
     check_eq(nine.banks[8].offset, 9)?;
     let ten = banks(b"store map 9 9 1 1 2 1 3 1 4 1 5 1 6 1 7 1 8 1 9 1 10 1").ok_or("no map")?;
-    check(ten == nine)
+    check_eq(ten.used, 9)?;
+    check_eq(ten.banks[8].offset, 9)
 }
 
 #[test]
@@ -226,23 +224,30 @@ fn texts(rt: LibcRuntime) -> Result<(), Fail> {
 #[test]
 fn the_head_of_a_job() -> Result<(), Fail> {
     let mut job = Job::new();
-    let code_first = Err(Wrong {
-        expected: Expected::CodeFirst,
-        found: b"store",
-    });
-    check_eq(job.run_line(b"store flat 6"), code_first)?;
-    check_eq(job.run_line(b"code am2960"), Ok(Next::Answered(None)))?;
-    let checks = Some(Answer::Checks { checks: 41 });
-    check_eq(job.run_line(b"checks 512"), Ok(Next::Answered(checks)))?;
+    check(matches!(
+        job.run_line(b"store flat 6"),
+        Err(Wrong {
+            expected: Expected::CodeFirst,
+            found: b"store"
+        })
+    ))?;
+    check(matches!(job.run_line(b"code am2960"), Ok(Next::Answered(None))))?;
     check(job.run_line(b"code parity x").is_err())?;
-    check_eq(job.run_line(b"checks 512"), Ok(Next::Answered(checks)))?;
-    let store_first = Err(Wrong {
-        expected: Expected::StoreFirst,
-        found: b"cell",
-    });
-    check_eq(job.run_line(b"cell 1"), store_first)?;
-    let flat = Next::Store(CodeName::Am2960, Make::Flat { cells: 6 });
-    check_eq(job.run_line(b"store flat 6"), Ok(flat))
+    check(matches!(
+        job.run_line(b"checks 512"),
+        Ok(Next::Answered(Some(Answer::Checks { checks: 41 })))
+    ))?;
+    check(matches!(
+        job.run_line(b"cell 1"),
+        Err(Wrong {
+            expected: Expected::StoreFirst,
+            found: b"cell"
+        })
+    ))?;
+    check(matches!(
+        job.run_line(b"store flat 6"),
+        Ok(Next::Store(CodeName::Am2960, Make::Flat { cells: 6 }))
+    ))
 }
 
 #[test]

@@ -7,7 +7,7 @@ ghost use Rattle.language.specs.Lines.{blank, like, uncommented, words, first,
 const COMMENT: u8 = b'#';
 
 // It means the words that are left.
-#[derive(Clone, Copy, Debug)]
+#[derive(Clone, Copy)]
 pub struct Words<'a> {
     rest: &'a [u8],
 }

@@ -1,3 +1,4 @@
+use borrow.Author.Needs.{needs}
 use lib.Bits.{bitXor}
 use lib.ListN.{getD}
 use Rattle.stores.specs.Meaning.{content-bits}
@@ -13,4 +14,4 @@ returns c =
     (c .count .result) (c .count .ensures) (c .in-Continue-test-write .ensures tt)
     (λ fits. (xor-low content-bits old (c .args .mask) fits, xor-high content-bits old (c .args .mask) fits))
     in
-    record { answers = done .answers; leaves = done .leaves; keeps = done .keeps }
+    search needs

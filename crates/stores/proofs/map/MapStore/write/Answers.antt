@@ -1,3 +1,4 @@
+use borrow.Author.Needs.{needs}
 use Rattle.stores.specs.Maps.{count-of, banks-of}
 use Rattle.stores.proofs.MapCells.{mapped-granted}
 use Rattle.stores.proofs.map.MapStore.write.Needs as need
@@ -7,10 +8,9 @@ returns-in-Some g c =
     let store = g .S·Store in
     let map = c .args .self .now .map .now in
     let old = c .args .self .now .below in
-    let below = c .write .ensures in
     let done =
-    mapped-granted (count-of map) (banks-of map) (store .meaning old) _ (store .proper old) (c .args .cell) (c .in-Some .below) (c .args .content)
+    mapped-granted (count-of map) (banks-of map) (store .meaning old) (store .meaning (c .write .last .self)) (store .proper old) (c .args .cell) (c .in-Some .below) (c .args .content)
     (c .count .result) (λ old. c .args .content) (c .write .result) (c .count .ensures) (c .in-Continue-test-write .ensures tt) (c .in-Some .ensures tt)
-    (below .answers) (below .leaves)
+    (search needs) (search needs)
     in
-    record { answers = done .0; leaves = done .1; keeps = below .keeps }
+    record { answers = done .0; leaves = done .1; keeps = search needs }

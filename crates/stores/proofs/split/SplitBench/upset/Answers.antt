@@ -1,3 +1,4 @@
+use borrow.Author.Needs.{needs}
 use Prim.Native.Nat.{ℕ, _/_, _<_, _^_}
 use mathlib.Core.Path.{_≡_}
 use native.Mathlib.Omega.{arith}
@@ -22,4 +23,4 @@ returns c =
       unused = xor-high 6 check (mask / 65536) (omega arith);
     })
     in
-    record { answers = done .answers; leaves = done .leaves; keeps = done .keeps }
+    search needs

@@ -1,3 +1,4 @@
+use borrow.Author.Needs.{needs}
 use Prim.Native.Nat.{ℕ, _<_}
 use mathlib.Core.Path.{_≡_}
 use native.Mathlib.Omega.{arith}
@@ -19,4 +20,4 @@ returns c =
     (c .in-Continue-test-write .ensures tt)
     (λ fits. record { content = omega arith; unused = omega arith })
     in
-    record { answers = done .answers; leaves = done .leaves; keeps = done .keeps }
+    search needs
