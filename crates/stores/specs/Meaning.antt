@@ -35,7 +35,11 @@ pub record Proper (m : Meaning) : Type 0 where
   pub past : (cell : ℕ) → m .count ≤ cell → m .at cell ≡ Err (fault PastCount (m .layer) cell)
   pub narrow : (cell content : ℕ) → m .at cell ≡ Ok content → content < content-limit
 
--- what the layer that is asked tests first of a cell and a number to be written there
+-- what the layer that is asked tests first of a cell
+abbrev pub tested-cell : ℕ → ℕ → ℕ → Result (Unit {0}) Fault
+tested-cell layer count cell = cond (ltb cell count) (Ok tt) (Err (fault PastCount layer cell))
+
+-- and of a cell and a number to be written there
 abbrev pub tested : ℕ → ℕ → ℕ → ℕ → Result (Unit {0}) Fault
 tested layer count cell number =
     cond (ltb cell count) (cond (ltb number content-limit) (Ok tt) (Err (fault TooWide layer cell))) (Err (fault PastCount layer cell))

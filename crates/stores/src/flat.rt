@@ -7,8 +7,8 @@ ghost use Rattle.stores.specs.Memory.{outside-cells, above};
 ghost use Rattle.stores.specs.Proper.{flat-proper};
 use crate::bench::Bench;
 use crate::bits::with_low_bits;
-use crate::fault::Cause;
 use crate::fault::Fault;
+use crate::refusal::test_cell;
 use crate::refusal::test_write;
 use crate::store::CONTENT_BITS;
 use crate::store::CONTENT_LIMIT;
@@ -48,15 +48,8 @@ pub impl Store for Flat<'_> as FlatStore {
     }
 
     fn read(&self, cell: u32) -> Result<u32, Fault> {
-        if cell < self.count() {
-            Ok(self.cells[cell as usize] % CONTENT_LIMIT)
-        } else {
-            Err(Fault {
-                cause: Cause::PastCount,
-                layer: LAYER,
-                cell,
-            })
-        }
+        test_cell(LAYER, self.count(), cell)?;
+        Ok(self.cells[cell as usize] % CONTENT_LIMIT)
     }
 
     fn write(&mut self, cell: u32, content: u32) -> Result<(), Fault> {

@@ -8,6 +8,7 @@ use crate::banks::BankMap;
 use crate::bench::Bench;
 use crate::fault::Cause;
 use crate::fault::Fault;
+use crate::refusal::test_cell;
 use crate::refusal::test_write;
 use crate::store::Store;
 
@@ -40,13 +41,7 @@ pub impl<S: Store> Store for Map<'_, S> as MapStore {
     }
 
     fn read(&self, cell: u32) -> Result<u32, Fault> {
-        if cell >= self.map.count() {
-            return Err(Fault {
-                cause: Cause::PastCount,
-                layer: LAYER,
-                cell,
-            });
-        }
+        test_cell(LAYER, self.map.count(), cell)?;
         match self.map.cell_below(cell) {
             Some(below) => self.below.read(below),
             None => Err(not_fitted(cell)),

@@ -5,8 +5,8 @@ ghost use Rattle.stores.specs.Layers.{pair as pairMeaning};
 ghost use Rattle.stores.specs.Memory.{both};
 ghost use Rattle.stores.specs.Proper.{pair-proper};
 use crate::bench::Bench;
-use crate::fault::Cause;
 use crate::fault::Fault;
+use crate::refusal::test_cell;
 use crate::refusal::test_write;
 use crate::store::MOST_CELLS;
 use crate::store::Store;
@@ -45,13 +45,8 @@ pub impl<F: Store, S: Store> Store for Pair<F, S> as PairStore {
     }
 
     fn read(&self, cell: u32) -> Result<u32, Fault> {
-        if cell >= self.count() {
-            Err(Fault {
-                cause: Cause::PastCount,
-                layer: LAYER,
-                cell,
-            })
-        } else if cell % 2 == 0 {
+        test_cell(LAYER, self.count(), cell)?;
+        if cell % 2 == 0 {
             self.first.read(cell / 2)
         } else {
             self.second.read(cell / 2)

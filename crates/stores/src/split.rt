@@ -6,8 +6,8 @@ ghost use Rattle.stores.specs.Memory.{both, outside-cells, above, none};
 ghost use Rattle.stores.specs.Proper.{split-proper};
 use crate::bench::Bench;
 use crate::bits::with_low_bits;
-use crate::fault::Cause;
 use crate::fault::Fault;
+use crate::refusal::test_cell;
 use crate::refusal::test_write;
 use crate::store::MOST_CELLS;
 use crate::store::Store;
@@ -49,16 +49,9 @@ pub impl Store for Split<'_, '_> as SplitStore {
     }
 
     fn read(&self, cell: u32) -> Result<u32, Fault> {
-        if cell < self.count() {
-            let at = cell as usize;
-            Ok(content_of(self.words[at], self.checks[at]))
-        } else {
-            Err(Fault {
-                cause: Cause::PastCount,
-                layer: LAYER,
-                cell,
-            })
-        }
+        test_cell(LAYER, self.count(), cell)?;
+        let at = cell as usize;
+        Ok(content_of(self.words[at], self.checks[at]))
     }
 
     fn write(&mut self, cell: u32, content: u32) -> Result<(), Fault> {
