@@ -3,8 +3,7 @@
 -- Assumes nothing.
 use Prim.Native.Nat.{ℕ, _+_, _%_, _^_, _≤_, _<_}
 use mathlib.Core.Path.{_≡_, refl, sym, ap, ap₂, _∙_, subst}
-use mathlib.Core.Logic.{_⊎_, inl, inr}
-use mathlib.Core.Bool.{true, false}
+use mathlib.Core.Logic.{inl, inr}
 use mathlib.Core.List.{List}
 use native.Mathlib.Omega.{arith}
 use lib.Dec.{eqb, lit<, lit≤}
@@ -14,10 +13,9 @@ use lib.Count.{ones}
 use Rattle.std.specs.shelf.Lists.{All}
 use Rattle.std.proofs.shelf.Elements.{all-weaker}
 use Rattle.std.proofs.shelf.Tests.{eq-eqb, ne-eqb, cases-eq}
-use Rattle.codes.specs.Cells.{word-bits, most-checks, by-syndrome}
+use Rattle.codes.specs.Cells.{most-checks, by-syndrome}
 use Rattle.codes.specs.Law.{Lawful}
-use Rattle.codes.specs.Columns.{folded-columns, named-bit, judged-by-columns, checks-of-zero, Different, Three-or-five, Columns, Any-columns-lawful}
-use Rattle.codes.specs.declared.verdict.Verdict.the-variants.{Mended, Bad}
+use Rattle.codes.specs.Columns.{folded-columns, named-bit, judged-by-columns, checks-of-zero, Different, Three-or-five, Any-columns-lawful}
 use Rattle.codes.proofs.Ones.{xor-swap, xor-apart, ones-zero, ones-none, ones-xor}
 use Rattle.codes.proofs.Mixes.{mix, folded-mix, mix-xor, mix-zero, mix-below, mix-ones, one-column, named-by-column, two-columns, names-nothing, named-below}
 use Rattle.codes.proofs.Syndromes.{after-change, Changes, lawful-by-syndrome}

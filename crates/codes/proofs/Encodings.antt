@@ -1,10 +1,10 @@
 -- Under every lawful code a cell is judged sound exactly when its places are a word's encoding.
 -- Assumes nothing.
-use Prim.Native.Nat.{ℕ, _<_, _^_}
+use Prim.Native.Nat.{ℕ}
 use mathlib.Core.Path.{_≡_, sym, ap, _∙_, subst}
 use native.Mathlib.Omega.{arith}
 use Rattle.std.specs.Options.{Cases as BySome}
-use Rattle.codes.specs.Cells.{Judgement, Coding, data-of, checks-of, places-of, cell-of, encoding, if-sound}
+use Rattle.codes.specs.Cells.{Judgement, Coding, data-of, checks-of, cell-of, if-sound}
 use Rattle.codes.specs.Law.{Lawful, Encodes, Sound-is-encoding}
 use Rattle.codes.specs.declared.verdict.Verdict.{Verdict}
 use Rattle.codes.specs.declared.verdict.Verdict.the-variants.{Sound, Mended, Bad}

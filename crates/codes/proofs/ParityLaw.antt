@@ -1,8 +1,8 @@
 -- The law of byte parity.
 -- Assumes nothing.
-use Prim.Native.Nat.{ℕ, _+_, _*_, _/_, _%_, _^_, _≤_, _<_}
+use Prim.Native.Nat.{ℕ, _+_, _/_, _%_, _^_, _≤_, _<_}
 use mathlib.Core.Path.{_≡_, refl, sym, ap, _∙_}
-use mathlib.Core.Logic.{_⊎_, inl, inr}
+use mathlib.Core.Logic.{inl, inr}
 use mathlib.Core.Bool.{true}
 use native.Mathlib.Nat.{mod-lt}
 use native.Mathlib.Omega.{arith}
@@ -12,7 +12,7 @@ use lib.Count.{ones}
 use Rattle.std.proofs.shelf.Tests.{cases-eq}
 use Rattle.codes.specs.Cells.{word-bits, most-checks}
 use Rattle.codes.specs.Law.{Lawful}
-use Rattle.codes.specs.Parity.{odd-parity, parity-checks, judged-by-parity, byte-parity}
+use Rattle.codes.specs.Parity.{parity-checks, judged-by-parity, byte-parity}
 use Rattle.codes.proofs.Ones.{bit-cases, xor-cancel, xor-apart, ones-zero, ones-none, ones-xor}
 use Rattle.codes.proofs.Fields.{ones-parts}
 use Rattle.codes.proofs.Syndromes.{Changes, lawful-by-syndrome}

@@ -5,7 +5,7 @@ use mathlib.Core.Path.{_≡_, sym, ap, ap₂, _∙_}
 use native.Mathlib.Omega.{arith}
 use lib.Bits.{bitXor, xor-self}
 use lib.Count.{ones}
-use Rattle.codes.specs.Cells.{Judgement, data-of, checks-of, cell-of, syndrome-of, by-syndrome}
+use Rattle.codes.specs.Cells.{Judgement, data-of, cell-of, syndrome-of, by-syndrome}
 use Rattle.codes.specs.Law.{Lawful}
 use Rattle.codes.specs.declared.verdict.Verdict.the-variants.{Sound, Mended, Bad}
 use Rattle.codes.proofs.Fields.{data-below, data-of-cell, checks-of-cell, data-of-places, checks-of-places, changed-data, changed-checks, ones-parts, mask-checks-below}

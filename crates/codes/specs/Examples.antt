@@ -7,7 +7,7 @@ use Rattle.codes.specs.Names.{coding-of}
 use Rattle.codes.specs.declared.examples.Example.{Example}
 use Rattle.codes.specs.declared.examples.Example.the-variants.{Checks, Judged}
 use Rattle.codes.specs.declared.names.CodeName.the-variants.{Am2960, Parity}
-use Rattle.codes.specs.declared.verdict.Verdict.the-variants.{Sound, Mended, Bad}
+use Rattle.codes.specs.declared.verdict.Verdict.the-variants.{Mended, Bad}
 
 -- the code gives the word those checks, or the cell of those data and checks that verdict, word and syndrome
 abbrev pub Holds : Example → Type 0

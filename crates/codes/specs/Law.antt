@@ -5,7 +5,7 @@ use Prim.Native.Nat.{ℕ, _+_, _^_, _≤_, _<_}
 use mathlib.Core.Path.{_≡_}
 use lib.Bits.{bitXor}
 use lib.Count.{ones}
-use Rattle.codes.specs.Cells.{Coding, data-of, checks-of, places-of, syndrome-of, encoding}
+use Rattle.codes.specs.Cells.{Coding, data-of, places-of, syndrome-of, encoding}
 use Rattle.codes.specs.declared.verdict.Verdict.the-variants.{Sound, Mended, Bad}
 
 -- a code for words of b bits, with at most `most` check bits

@@ -1,6 +1,6 @@
 // The Am2960's code: six check bits, one struck place mended, two found.
 ghost use mathlib.Core.Path.{_≡_};
-ghost use Rattle.codes.specs.Columns.{am2960 as am2960Coding, column-code, checks-of-zero, named-bit, judged-by-columns};
+ghost use Rattle.codes.specs.Columns.{am2960 as am2960Coding, column-code, named-bit, judged-by-columns};
 use crate::cells::checks_of;
 use crate::cells::data_of;
 use crate::code::Code;

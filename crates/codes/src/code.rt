@@ -1,6 +1,5 @@
 // The trait of check codes.
 ghost use mathlib.Core.Path.{_≡_};
-ghost use Prim.Native.Nat.{ℕ};
 ghost use Rattle.codes.specs.Cells.{Coding, figures as figuresOf, word-bits, most-checks};
 ghost use Rattle.codes.specs.Law.{Lawful};
 use crate::verdict::Verdict;

@@ -1,18 +1,18 @@
 -- Laws of what a call leaves: at a cell that is tested and fitted, in any layer.
 -- Assumes nothing.
-use Prim.Native.Nat.{ℕ, _≤_, _<_}
+use Prim.Native.Nat.{ℕ, _<_}
 use mathlib.Core.Path.{_≡_, refl, sym, ap, ap₂, subst, fun-ext, _∙_}
 use mathlib.Core.Logic.{⊎-elim}
 use mathlib.Core.Bool.{Bool, true, false, cond}
 use native.Mathlib.Omega.{arith}
-use lib.Dec.{ltb, eqb}
-use Rattle.std.proofs.shelf.Tests.{cases-eq, cases-lt, lt-ltb, le-ltb, ltb-true, eq-eqb, ne-eqb}
+use lib.Dec.{ltb}
+use Rattle.std.proofs.shelf.Tests.{cases-eq, lt-ltb, ltb-true, eq-eqb, ne-eqb}
 use Rattle.std.specs.declared.result.Result.{Result}
 use Rattle.std.specs.declared.result.Result.the-variants.{Ok, Err}
 use Rattle.stores.specs.declared.fault.Cause.the-variants.{PastCount, TooWide}
 use Rattle.stores.specs.declared.fault.Fault.{Fault}
 use Rattle.stores.specs.Faults.{fault}
-use Rattle.stores.specs.Meaning.{Meaning, Proper, content-limit, tested, and-then, granted, write-answer, with-content, changed}
+use Rattle.stores.specs.Meaning.{Meaning, content-limit, tested, and-then, granted, write-answer, with-content, changed}
 use Rattle.stores.specs.Layers.{layered}
 
 -- a test that is passed says that the cell is below the count and the number fits

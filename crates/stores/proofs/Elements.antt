@@ -7,7 +7,7 @@ use native.Mathlib.Nat.{mod-eq-of-lt, div-eq-of-lt, div-add-mod'}
 use native.Mathlib.Omega.{arith}
 use lib.Dec.{lit≤}
 use lib.Bits.{bitXor, bitAnd, bitOr, xor-zero-r, xor-block, and-mask, or-shifted}
-use lib.ListN.{length, getD, set, drop, length-set}
+use lib.ListN.{length, getD, set, length-set}
 use lib.Seq.{getD-set-same, getD-set-other, map-set, set-getD}
 use Rattle.std.proofs.shelf.Lists.{drop-set-lt}
 use Rattle.std.proofs.shelf.Bits.{xor-mod, xor-shr, mod-below, shl-whole}

@@ -4,18 +4,17 @@ use Prim.Native.Nat.{ℕ, _+_, _-_, _<_, _≤_}
 use mathlib.Core.Path.{_≡_, refl, sym, ap, ap₂, _∙_}
 use mathlib.Core.Logic.{⊎-elim}
 use mathlib.Core.List.{List, [], _∷_}
-use mathlib.Core.Bool.{Bool, true, false, cond, _&&_}
+use mathlib.Core.Bool.{true, cond}
 use native.Mathlib.Omega.{arith}
-use lib.Dec.{ltb, leb, eqb}
-use Rattle.std.proofs.shelf.Tests.{leb-true, ltb-true, and-parts, cases-bool, cases-lt, lt-ltb, le-ltb, eq-eqb, ne-eqb}
+use lib.Dec.{ltb, leb}
+use Rattle.std.proofs.shelf.Tests.{leb-true, ltb-true, and-parts, cases-bool, cases-lt, le-ltb, eq-eqb, ne-eqb}
 use Rattle.std.specs.declared.option.Option.{Option}
 use Rattle.std.specs.declared.option.Option.the-variants.{Some, None}
 use Rattle.std.specs.declared.result.Result.{Result}
 use Rattle.std.specs.declared.result.Result.the-variants.{Ok, Err}
 use Rattle.stores.specs.declared.bank.Bank.{Bank}
 use Rattle.stores.specs.declared.fault.Fault.{Fault}
-use Rattle.stores.specs.Meaning.{Meaning, Proper, content-limit, tested, and-then, granted, write-answer, with-content, changed}
-use Rattle.stores.specs.Layers.{layered}
+use Rattle.stores.specs.Meaning.{Meaning, Proper, content-limit, tested, granted, write-answer, with-content, changed}
 use Rattle.stores.specs.Banks.{end-of, inside, cell-below}
 use Rattle.stores.specs.Maps.{mapped-cell, mapped-by}
 use Rattle.stores.proofs.Changes.{tested-tells, tested-passes, passed-at, answer-by-cell, layered-with, layered-below}

@@ -1,12 +1,12 @@
 -- Flat, split and pair stores are proper.
 -- Assumes nothing.
-use Prim.Native.Nat.{ℕ, _*_, _/_, _%_, _^_, _≤_, _<_, min}
+use Prim.Native.Nat.{ℕ, _/_, _%_, _≤_, _<_}
 use mathlib.Core.Path.{_≡_}
 use mathlib.Core.Logic.{⊎-elim}
 use mathlib.Core.List.{List}
 use native.Mathlib.Omega.{arith}
 use lib.Dec.{eqb}
-use lib.ListN.{length, getD}
+use lib.ListN.{getD}
 use Rattle.std.proofs.shelf.Tests.{cases-lt, le-ltb, lt-ltb, cases-bool}
 use Rattle.std.proofs.shelf.Bits.{mod-below}
 use Rattle.std.specs.declared.result.Result.{Result}
@@ -15,7 +15,7 @@ use Rattle.stores.specs.declared.fault.Cause.the-variants.{PastCount}
 use Rattle.stores.specs.declared.fault.Fault.{Fault}
 use Rattle.stores.specs.Faults.{fault}
 use Rattle.stores.specs.Meaning.{Meaning, Proper, most-cells, content-limit}
-use Rattle.stores.specs.Layers.{limited, layered, flat, flat-count, split, split-count, split-content, pair, pair-count, pair-cell}
+use Rattle.stores.specs.Layers.{layered, flat, flat-count, split, split-count, split-content, pair, pair-count, pair-cell}
 
 -- a layer is proper if its cells hold contents of 22 bits
 pub layered-proper

@@ -1,5 +1,4 @@
 // The pair: two stores of any make, whose cells are taken in turn.
-ghost use denote.Ref.{now};
 ghost use mathlib.Core.Path.{_≡_};
 ghost use Rattle.stores.specs.Layers.{pair as pairMeaning};
 ghost use Rattle.stores.specs.Memory.{both};

@@ -1,5 +1,4 @@
 use borrow.Author.Needs.{needs}
-use native.Mathlib.Omega.{arith}
 use Rattle.language.proofs.Numerals.{no-digit, too-large, one-more, all-read}
 use Rattle.language.proofs.numbers.bounded_numeral.Needs as need
 

@@ -1,4 +1,4 @@
-use mathlib.Core.Path.{ap, _∙_}
+use mathlib.Core.Path.{ap}
 use borrow.Author.Needs.{needs}
 use Rattle.language.specs.Lines.{words}
 use Rattle.language.proofs.Lines.{uncommented-more, uncommented-here, uncommented-all}

@@ -1,8 +1,7 @@
 use borrow.Author.Needs.{needs}
-use Prim.Native.Nat.{ℕ, _/_, _<_, _^_}
-use mathlib.Core.Path.{_≡_}
+use Prim.Native.Nat.{ℕ, _/_}
 use native.Mathlib.Omega.{arith}
-use lib.Bits.{bitXor, bitAnd, and-mask, mask-lt}
+use lib.Bits.{bitXor, bitAnd}
 use lib.ListN.{getD}
 use Rattle.stores.proofs.Elements.{split-granted, content-upset, xor-high}
 use Rattle.stores.proofs.split.SplitBench.upset.Needs as need

@@ -1,9 +1,6 @@
 use borrow.Author.Needs.{needs}
-use Prim.Native.Nat.{ℕ, _<_}
-use mathlib.Core.Path.{_≡_}
 use native.Mathlib.Omega.{arith}
 use lib.Bits.{bitAnd, and-mask}
-use lib.ListN.{getD}
 use Rattle.stores.proofs.Elements.{split-granted}
 use Rattle.stores.proofs.split.SplitStore.write.Needs as need
 
