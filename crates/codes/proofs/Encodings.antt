@@ -1,11 +1,16 @@
--- Under every lawful code a cell is judged sound exactly when its places are a word's encoding.
+-- Under every lawful code a cell is judged sound exactly when its places are a word's encoding, and some cells are not.
 -- Assumes nothing.
-use Prim.Native.Nat.{ℕ}
+use Prim.Native.Nat.{ℕ, _+_, _^_, _<_}
 use mathlib.Core.Path.{_≡_, sym, ap, _∙_, subst}
+use mathlib.Core.Logic.{⊎-elim}
 use native.Mathlib.Omega.{arith}
+use lib.Bits.{bitXor}
+use lib.Count.{ones-ones}
+use Rattle.std.proofs.shelf.Bits.{pow-pos, pow-below}
+use Rattle.std.proofs.shelf.Tests.{cases-lt}
 use Rattle.std.specs.Options.{Cases as BySome}
-use Rattle.codes.specs.Cells.{Judgement, Coding, data-of, checks-of, cell-of, if-sound}
-use Rattle.codes.specs.Law.{Lawful, Encodes, Sound-is-encoding}
+use Rattle.codes.specs.Cells.{Judgement, Coding, data-of, checks-of, cell-of, encoding, if-sound}
+use Rattle.codes.specs.Law.{Lawful, Encodes, Sound-is-encoding, Tells-cells-apart}
 use Rattle.codes.specs.declared.verdict.Verdict.{Verdict}
 use Rattle.codes.specs.declared.verdict.Verdict.the-variants.{Sound, Mended, Bad}
 use Rattle.codes.proofs.Fields.{data-below, places-parts}
@@ -42,3 +47,21 @@ module _ (b most : ℕ) (code : Coding) (law : Lawful b most code) where
       go Sound w ev ew = subst (Encodes b code cell) (sym ew) (sound-encodes cell (sym ev))
       go Mended w ev ew = λ word e. let same = ev ∙ ap (λ x. x .0) (encodes-judged cell word e) in let z : _≡_ {A = ℕ} 0 1 = cc in omega arith
       go Bad w ev ew = λ word e. let same = ev ∙ ap (λ x. x .0) (encodes-judged cell word e) in let z : _≡_ {A = ℕ} 0 1 = cc in omega arith
+
+  -- the encoding of 0 is sound, and with its lowest place struck it is not
+  pub tells-cells-apart : 0 < b → Tells-cells-apart code
+  tells-cells-apart some = (
+    λ all. let same : Bad ≡ Sound = sym (all (encoding b code 0)) ∙ ap (λ v. v .0) (law .intact 0 (pow-pos b)) in let z : _≡_ {A = ℕ} 0 1 = cc in omega arith,
+    λ all.
+        let struck = bitXor (encoding b code 0) 1 in
+        let place : 1 < 2 ^ (b + code .width) = pow-below 0 (b + code .width) (omega arith) in
+        let one = ones-ones 1 in
+        ⊎-elim
+        (λ mends. let same : Sound ≡ Mended = sym (all struck) ∙ law .mended 0 1 (pow-pos b) place (omega arith) (omega arith) .0 in let z : _≡_ {A = ℕ} 0 1 = cc in omega arith)
+        (λ none.
+        let finds = law .alert in
+        let same : Sound ≡ Bad = sym (all struck) ∙ law .found 0 1 (pow-pos b) place (omega arith) (omega arith) in
+        let z : _≡_ {A = ℕ} 0 1 = cc in
+        omega arith)
+        (cases-lt 0 (code .mends)),
+  )

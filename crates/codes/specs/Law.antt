@@ -46,3 +46,7 @@ abbrev pub Sound-is-encoding : ℕ → Coding → Type 0
 Sound-is-encoding b code =
     ((cell word : ℕ) → Encodes b code cell word → code .judged cell ≡ (Sound, word, 0))
     × ((cell : ℕ) → code .judged cell .0 ≡ Sound → Encodes b code cell (code .judged cell .1))
+
+-- a code that calls every cell bad cannot keep the law, and neither can one that calls every cell sound
+abbrev pub Tells-cells-apart : Coding → Type 0
+Tells-cells-apart code = (((cell : ℕ) → code .judged cell .0 ≡ Bad) → ⊥) × (((cell : ℕ) → code .judged cell .0 ≡ Sound) → ⊥)

@@ -3,7 +3,7 @@ ghost use mathlib.Core.Path.{_≡_};
 ghost use Prim.Native.Nat.{ℕ, _≤_};
 ghost use Rattle.std.specs.Options.{Cases as BySome};
 ghost use Rattle.codes.specs.Cells.{word-bits, cell-of, data-of, checks-of, encoding, if-sound};
-ghost use Rattle.codes.specs.Law.{Encodes, Sound-is-encoding};
+ghost use Rattle.codes.specs.Law.{Encodes, Sound-is-encoding, Tells-cells-apart};
 use crate::bits::join_bits;
 use crate::bits::low_bits;
 use crate::code::Code;
@@ -47,6 +47,7 @@ pub fn stored_checks<C: Code>(cell: u32) -> u8
 pub fn encoded_word<C: Code>(cell: u32) -> Option<u16>
     ensures exact { λ r. ⌜ BySome r ((word : ℕ) → Encodes word-bits (C·Code .meaning) cell word → ⊥) (λ word. Encodes word-bits (C·Code .meaning) cell word) ⌝ }
     ensures sound { λ _. ⌜ Sound-is-encoding word-bits (C·Code .meaning) ⌝ }
+    ensures apart { λ _. ⌜ Tells-cells-apart (C·Code .meaning) ⌝ }
 {
     sound_word(C::judge(cell))
 }

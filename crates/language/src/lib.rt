@@ -1,4 +1,4 @@
-// One line of a job as an act, and answers and mistakes as text.
+// The job language: a line as an act, what it answers under a code and on a store, and answers and mistakes as text.
 mod act;
 mod answer;
 mod job;
