@@ -41,7 +41,7 @@ pub impl<S: Store> Store for Map<'_, S> as MapStore {
     }
 
     fn read(&self, cell: u32) -> Result<u32, Fault> {
-        test_cell(LAYER, self.map.count(), cell)?;
+        test_cell(LAYER, self.count(), cell)?;
         match self.map.cell_below(cell) {
             Some(below) => self.below.read(below),
             None => Err(not_fitted(cell)),
@@ -49,7 +49,7 @@ pub impl<S: Store> Store for Map<'_, S> as MapStore {
     }
 
     fn write(&mut self, cell: u32, content: u32) -> Result<(), Fault> {
-        test_write(LAYER, self.map.count(), cell, content)?;
+        test_write(LAYER, self.count(), cell, content)?;
         match self.map.cell_below(cell) {
             Some(below) => self.below.write(below, content),
             None => Err(not_fitted(cell)),
@@ -59,7 +59,7 @@ pub impl<S: Store> Store for Map<'_, S> as MapStore {
 
 pub impl<S: Bench> Bench for Map<'_, S> as MapBench {
     fn upset(&mut self, cell: u32, mask: u32) -> Result<(), Fault> {
-        test_write(LAYER, self.map.count(), cell, mask)?;
+        test_write(LAYER, self.count(), cell, mask)?;
         match self.map.cell_below(cell) {
             Some(below) => self.below.upset(below, mask),
             None => Err(not_fitted(cell)),
