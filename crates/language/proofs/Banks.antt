@@ -44,9 +44,6 @@ pub record Read (list : BankList) (rest all : List (List ℕ)) : Type 0 where
   pub lists : list ≡ listed seen
   pub follows : bank-list all ≡ and-then (banks-of (pairs rest)) (λ banks. Ok (listed (seen ++ banks)))
 
-pub none-read : {list : BankList} (all : List (List ℕ)) → list ≡ listed [] → Read list all all
-none-read all is = record { seen = []; lists = is; follows = refl }
-
 pub all-read : {list : BankList} (rest all : List (List ℕ)) → rest ≡ [] → Read list rest all → Ok list ≡ bank-list all
 all-read rest all none read =
     let done : bank-list all ≡ Ok (listed (read .seen ++ [])) = rw none at (read .follows) in
