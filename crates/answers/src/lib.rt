@@ -1,4 +1,6 @@
 // What acts answer and what a job comes to, and how both are said.
+#![tactic(auto)]
+
 mod answer;
 mod totals;
 

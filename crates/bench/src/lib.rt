@@ -1,4 +1,6 @@
 // A job as it runs, line by line: its head, then a store, then a card.
+#![tactic(auto)]
+
 mod card_job;
 mod job;
 mod store_job;

@@ -1,4 +1,6 @@
 // The card: a module that answers bus transfers on any store with any check code.
+#![tactic(auto)]
+
 mod bench;
 mod examine;
 mod module;

@@ -1,4 +1,6 @@
 // Check codes: what a code is, the law that every code keeps, and two codes that keep it.
+#![tactic(auto)]
+
 mod am2960;
 mod bits;
 mod cells;

@@ -1,5 +1,7 @@
 // Compares the syndrome decode table that the makers of the chip and of the memory print with what the Am2960 code answers,
 // at all 64 syndromes and all 65,536 words; and reads every word back from its encoding under both codes.
+#![tactic(auto)]
+
 mod marks;
 
 use anyhow::anyhow;

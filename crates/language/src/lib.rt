@@ -1,4 +1,6 @@
 // The job language: a line as the act that it asks for, and what is wrong with a line as text.
+#![tactic(auto)]
+
 mod act;
 mod make;
 mod parse;

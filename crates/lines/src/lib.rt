@@ -1,4 +1,6 @@
 // Lines of a text: without their ends, as words, and the numbers that words write.
+#![tactic(auto)]
+
 mod line;
 mod numbers;
 mod words;

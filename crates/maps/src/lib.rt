@@ -1,4 +1,6 @@
 // Bank maps, and the store that a bank map makes of any other.
+#![tactic(auto)]
+
 mod bank;
 mod banks;
 mod map;

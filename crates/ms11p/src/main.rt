@@ -1,4 +1,6 @@
 // The bench program: runs jobs of the job language, and prints what each act answers.
+#![tactic(auto)]
+
 mod example;
 mod output;
 mod reading;

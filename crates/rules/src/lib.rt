@@ -1,4 +1,6 @@
 // The rules of the card: placements, registers and tallies, and what each call answers and leaves, whatever the store and the code.
+#![tactic(auto)]
+
 mod answer;
 mod control;
 mod look;

@@ -1,4 +1,6 @@
 // Stores: rows of cells of any make, that mean a count and for each cell a content or a fault.
+#![tactic(auto)]
+
 mod bench;
 mod bits;
 mod fault;

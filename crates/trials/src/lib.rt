@@ -1,5 +1,7 @@
 // Examples of every layer as tests, apart from the crates that they try so that those are proved once; and the operating modes of
 // the card, row by row as the maker of the memory tabulates them, wherever the card agrees with the table.
+#![tactic(auto)]
+
 #[cfg(test)]
 mod bench_trials;
 #[cfg(test)]

@@ -11,7 +11,7 @@ returns g c =
     record {
       exact =
           subst (λ r. MatchOption r ((word : ℕ) → Encodes word_bits code c.args.cell word → ⊥) (Encodes word_bits code c.args.cell))
-          (sym c.sound-word.ensures) (word_exact word_bits most_checks code law c.args.cell c.judge.result c.judge.ensures);
+          (sym c.sound_word.ensures) (word_exact word_bits most_checks code law c.args.cell c.judge.result c.judge.ensures);
       sound = sound_is_encoding word_bits most_checks code law;
       apart = tells_cells_apart word_bits most_checks code law (lit< tt);
     }

@@ -4,4 +4,4 @@ use Rattle.stores.proofs.fitted.is_fitted.Goals as goal
 
 pub returns : goal.returns
 returns g c =
-    record { value = c.has-content.ensures ∙ ap is_ok c.read.ensures; stays = frame_stays (g.S.Store.meaning c.args.store.now) }
+    record { value = c.has_content.ensures ∙ ap is_ok c.read.ensures; stays = frame_stays (g.S.Store.meaning c.args.store.now) }

@@ -11,7 +11,7 @@ returns-in-Some g c =
     let old = c.args.self.now.below in
     let done =
     mapped_granted (count_of map) (banks_of map) (store.meaning old) (store.meaning c.upset.new.self) (store.proper old) c.args.cell c.in-Some.below c.args.mask
-    c.count.result (λ old. bit_xor old c.args.mask) c.upset.result c.count.ensures c.in-ok-test-write.ensures c.in-Some.ensures
+    c.count.result (λ old. bit_xor old c.args.mask) c.upset.result c.count.ensures c.in_ok-test_write.ensures c.in-Some.ensures
     (search rules) (search rules)
     in
     record { answers = done.0; leaves = done.1; keeps = search rules }

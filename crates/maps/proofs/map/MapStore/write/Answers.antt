@@ -10,7 +10,7 @@ returns-in-Some g c =
     let old = c.args.self.now.below in
     let done =
     mapped_granted (count_of map) (banks_of map) (store.meaning old) (store.meaning c.write.new.self) (store.proper old) c.args.cell c.in-Some.below c.args.content
-    c.count.result (λ old. c.args.content) c.write.result c.count.ensures c.in-ok-test-write.ensures c.in-Some.ensures
+    c.count.result (λ old. c.args.content) c.write.result c.count.ensures c.in_ok-test_write.ensures c.in-Some.ensures
     (search rules) (search rules)
     in
     record { answers = done.0; leaves = done.1; keeps = search rules }

@@ -9,8 +9,8 @@ returns c =
     let xs = c.args.self.now.cells.now in
     let old = get_or xs c.args.cell 0 in
     let done =
-    flat_granted xs c.args.self.now.cells.name c.args.cell c.args.mask (bit_xor old c.args.mask) (λ x. bit_xor x c.args.mask)
-    c.count.result c.count.ensures c.in-ok-test-write.ensures
+    flat_granted xs c.args.self.now.cells.ghost_name c.args.cell c.args.mask (bit_xor old c.args.mask) (λ x. bit_xor x c.args.mask)
+    c.count.result c.count.ensures c.in_ok-test_write.ensures
     (λ fits. (xor_low content_bits old c.args.mask fits, xor_high content_bits old c.args.mask fits))
     in
     search rules

@@ -11,9 +11,9 @@ returns c =
     let check : ℕ = get_or checks c.args.cell 0 in
     let mask : ℕ = c.args.mask in
     let done =
-    split_granted words checks c.args.self.now.words.name c.args.self.now.checks.name c.args.cell mask
+    split_granted words checks c.args.self.now.words.ghost_name c.args.self.now.checks.ghost_name c.args.cell mask
     (bit_xor word (bit_and mask 65535)) (bit_xor check (mask / 65536)) (λ x. bit_xor x mask) c.count.result c.count.ensures
-    c.in-ok-test-write.ensures
+    c.in_ok-test_write.ensures
     (λ fits. record {
       content = content_upset word check mask fits;
       unused = xor_high 6 check (mask / 65536) (omega arith);

@@ -8,12 +8,12 @@ returns c =
     let words = c.args.self.now.words.now in
     let checks = c.args.self.now.checks.now in
     let low = and_mask c.args.content 16 in
-    let element = c.with-low-bits.ensures in
+    let element = c.with_low_bits.ensures in
     let old = c.from.ensures in
     let done =
-    split_granted words checks c.args.self.now.words.name c.args.self.now.checks.name c.args.cell c.args.content
-    (bit_and c.args.content 65535) c.with-low-bits.result (λ x. c.args.content) c.count.result c.count.ensures
-    c.in-ok-test-write.ensures
+    split_granted words checks c.args.self.now.words.ghost_name c.args.self.now.checks.ghost_name c.args.cell c.args.content
+    (bit_and c.args.content 65535) c.with_low_bits.result (λ x. c.args.content) c.count.result c.count.ensures
+    c.in_ok-test_write.ensures
     (λ fits. record { content = omega arith; unused = omega arith })
     in
     search rules
