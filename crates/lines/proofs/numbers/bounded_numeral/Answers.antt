@@ -2,8 +2,8 @@ use Rattle.std.proofs.Common.{rules}
 use Rattle.lines.proofs.Numerals.{no_digit, too_large, one_more, all_read}
 use Rattle.lines.proofs.numbers.bounded_numeral.Goals as goal
 
-pub returns-then-not-is-digit : goal.returns-then-not-is-digit
-returns-then-not-is-digit c = no_digit c.loop-byte-test.true c.loop-byte.invariant (search rules)
+pub returns-then-not-is_digit : goal.returns-then-not-is_digit
+returns-then-not-is_digit c = no_digit c.loop-byte-test.true c.loop-byte.invariant (search rules)
 
 pub returns-then-sum-from : goal.returns-then-sum-from
 returns-then-sum-from c = too_large c.loop-byte-test.true c.loop-byte.invariant (search rules) (search rules)
