@@ -5,7 +5,7 @@ use Rattle.language.proofs.Texts.{joined_next}
 use Rattle.language.proofs.wrong.found_text.Goals as goal
 
 pub loop-byte-preserved : goal.loop-byte-preserved
-loop-byte-preserved c = joined_next escaped c.args.found.now c.loop-byte.byte-index _ _ c.loop-byte-test.true c.loop-byte.invariant c.in-ok-push-escaped.ensures
+loop-byte-preserved c = joined_next escaped c.args.found.now c.loop-byte.byte-index _ _ c.loop-byte-test.true c.loop-byte.invariant c.in_ok-push_escaped.ensures
 
 pub returns : goal.returns
 returns c = search (rules, take_all)
