@@ -10,6 +10,7 @@ use example::DEFAULT_JOB;
 use output::Output;
 use reading::Lines;
 use std::io::{BufReader, BufWriter, Write};
+use std::process::ExitCode;
 use std::{env, fs};
 use stop::Stop;
 
@@ -20,12 +21,12 @@ or --default for the job that the program brings along; without any, the job is 
   --help   prints this text
 ";
 
-fn main(rt: HostRuntime) -> Result<(), Stop> {
+fn main(rt: HostRuntime) -> ExitCode {
     match run(&rt) {
-        Ok(()) => Ok(()),
+        Ok(()) => ExitCode::SUCCESS,
         Err(stop) => {
             let _ = eprintln!(rt; "{stop}");
-            Err(stop)
+            ExitCode::FAILURE
         }
     }
 }

@@ -15,10 +15,10 @@ fn limits(rt: HostRuntime) {
 #[test]
 fn ends_of_lines(rt: HostRuntime) {
     for line in [b"a".as_slice(), b"a\n", b"a\r\n"] {
-        assert_eq!(rt; line_content(line), b"a");
+        assert_eq!(rt; line_content(line), b"a".as_slice());
     }
     for line in [b"".as_slice(), b"\n", b"\r\n"] {
-        assert_eq!(rt; line_content(line), b"");
+        assert_eq!(rt; line_content(line), b"".as_slice());
     }
-    assert_eq!(rt; line_content(b"a\n\r"), b"a\n\r");
+    assert_eq!(rt; line_content(b"a\n\r"), b"a\n\r".as_slice());
 }
