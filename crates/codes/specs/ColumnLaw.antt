@@ -5,7 +5,7 @@ use Rattle.std.specs.Prelude.{◌≡◌, ℕ, ◌+◌, ◌%◌, ◌^◌, ◌<◌
 use Rattle.std.proofs.Common.{sym, ap, ap₂, ◌∙◌, subst, inl, inr, arith, lit<, lit≤}
 use Rattle.std.specs.Int.Bits.{xor_assoc, xor_self, xor_zero_r, xor_zero_l}
 use Rattle.std.proofs.lemmas.Nat.{xor_lt}
-use Rattle.std.specs.List.{AllByRecursion as All}
+use Rattle.std.specs.List.{AllByRecursion}
 use Rattle.std.proofs.ByRecursion.{All-weaker}
 use Rattle.std.proofs.lemmas.Bool.{eq-eqb, ne_eqb, cases_eq}
 use Rattle.codes.specs.Cells.{most_checks, by_syndrome}
@@ -20,7 +20,7 @@ use Rattle.codes.specs.Verdicts.{judges_by_tests, lost_bad, kept_mended}
 odd_some : (s : ℕ) → count_ones s % 2 ≡ 1 → s ≢ 0
 odd_some s odd z = let none = ones_zero s z in omega arith
 
-module _ (k start : ℕ) (cs : List ℕ) (start_below : start < 2 ^ k) (small : All (λ c. c < 2 ^ k) cs) (odd : All (λ c. count_ones c % 2 ≡ 1) cs) (several : All (λ c. count_ones c ≢ 1) cs) (different : Different cs) where
+module _ (k start : ℕ) (cs : List ℕ) (start_below : start < 2 ^ k) (small : AllByRecursion (λ c. c < 2 ^ k) cs) (odd : AllByRecursion (λ c. count_ones c % 2 ≡ 1) cs) (several : AllByRecursion (λ c. count_ones c ≢ 1) cs) (different : Different cs) where
   checks_below : (word : ℕ) → folded_columns start cs word < 2 ^ k
   checks_below word = rw (folded_mix start cs word) (xor_lt k start (mix cs word) start_below (mix_below k cs word small))
 
@@ -47,7 +47,7 @@ module _ (k start : ℕ) (cs : List ℕ) (start_below : start < 2 ^ k) (small : 
       omega arith
 
   -- one check bit is no column
-  no_column : (e : ℕ) → count_ones e ≡ 1 → All (λ c. c ≢ e) cs
+  no_column : (e : ℕ) → count_ones e ≡ 1 → AllByRecursion (λ c. c ≢ e) cs
   no_column e one = All-weaker (λ c. count_ones c ≢ 1) (λ c. c ≢ e) (λ c many same. many (ap count_ones same ∙ one)) cs several
 
   -- one changed place: the word comes back

@@ -1,7 +1,7 @@
 -- Codes by columns, and the Am2960's. Each data bit has a column, a number of k bits: the check bits that it takes part in.
 -- Assumes nothing.
 use Rattle.std.specs.Prelude.{◌≡◌, ℕ, ◌*◌, ◌/◌, ◌%◌, ◌^◌, ◌<◌, cond, ◌⊎◌, List, [], ◌∷◌, length, ◌==◌, ◌≢◌, bit_xor, count_ones}
-use Rattle.std.specs.List.{AllByRecursion as All}
+use Rattle.std.specs.List.{AllByRecursion}
 use Rattle.codes.specs.Cells.{Judgement, Coding, by_syndrome, word_bits, most_checks}
 use Rattle.codes.specs.Law.{Lawful}
 use Rattle.codes.specs.declared.verdict.Verdict.TheVariants.{Sound, Mended, Bad}
@@ -39,7 +39,7 @@ am2960 = column_code am2960_columns
 -- no two numbers of the list are equal
 abbrev pub Different : List ℕ → Type 0
 Different [] = Unit {0}
-Different (c ∷ cs) = All (λ x. x ≢ c) cs × Different cs
+Different (c ∷ cs) = AllByRecursion (λ x. x ≢ c) cs × Different cs
 
 -- three or five ones
 abbrev pub ThreeOrFive : ℕ → Type 0
@@ -48,8 +48,8 @@ ThreeOrFive c = (count_ones c ≡ 3) ⊎ (count_ones c ≡ 5)
 -- sixteen different numbers below 64, each of three or five ones
 pub record Columns (cs : List ℕ) : Type 0 where
   pub sixteen : length cs ≡ word_bits
-  pub small : All (λ c. c < 2 ^ 6) cs
-  pub three_or_five : All ThreeOrFive cs
+  pub small : AllByRecursion (λ c. c < 2 ^ 6) cs
+  pub three_or_five : AllByRecursion ThreeOrFive cs
   pub different : Different cs
 
 -- with any such columns the law is kept

@@ -5,7 +5,7 @@ use Rattle.std.proofs.Common.{sym, ap, ap₂, ◌∙◌, inl, inr, pow-suc, arit
 use Rattle.std.specs.Int.Bits.{xor_assoc, xor_self, xor_zero_r, xor_zero_l}
 use Rattle.std.proofs.lemmas.Nat.{xor_mod, xor_shr, xor_lt}
 use Rattle.std.specs.Int.Count.{ones, ones_step}
-use Rattle.std.specs.List.{AllByRecursion as All}
+use Rattle.std.specs.List.{AllByRecursion}
 use Rattle.std.proofs.lemmas.Bool.{ne_eqb, eq-eqb}
 use Rattle.codes.specs.Columns.{folded_columns, named_bit, Different}
 use Rattle.codes.specs.Ones.{bit_cases, xor_swap, xor_apart, ones_zero, ones_none, ones_xor}
@@ -51,7 +51,7 @@ unfolding mix
 mix_zero [] = refl
 mix_zero (c ∷ cs) = xor_zero_l (mix cs 0) ∙ mix_zero cs
 
-pub mix_below : (k : ℕ) (cs : List ℕ) (n : ℕ) → All (λ c. c < 2 ^ k) cs → mix cs n < 2 ^ k
+pub mix_below : (k : ℕ) (cs : List ℕ) (n : ℕ) → AllByRecursion (λ c. c < 2 ^ k) cs → mix cs n < 2 ^ k
 unfolding mix
 mix_below k [] n h = pow_pos k
 mix_below k (c ∷ cs) n h = xor_lt k (pick n c) (mix cs (n / 2)) (go (n % 2 == 1)) (mix_below k cs (n / 2) h.1)
@@ -65,7 +65,7 @@ half_below k n h = let double = pow-suc 2 k in omega arith
 
 -- where every column has an odd number of ones, the syndrome of a change is as even as its places
 pub mix_ones
-    : (k : ℕ) (cs : List ℕ) (n : ℕ) → All (λ c. c < 2 ^ k) cs → All (λ c. ones c % 2 ≡ 1) cs → n < 2 ^ length cs
+    : (k : ℕ) (cs : List ℕ) (n : ℕ) → AllByRecursion (λ c. c < 2 ^ k) cs → AllByRecursion (λ c. ones c % 2 ≡ 1) cs → n < 2 ^ length cs
     → ones (mix cs n) % 2 ≡ ones n % 2
 unfolding mix ones
 mix_ones k [] n below odd h = let z : n ≡ 0 = omega arith in rw z refl
@@ -81,7 +81,7 @@ mix_ones k (c ∷ cs) n below odd h =
     ]
 
 -- with one set bit the mix is a column, so it has what every column has
-pub one_column : (P : ℕ → Type 0) (cs : List ℕ) (n : ℕ) → n < 2 ^ length cs → ones n ≡ 1 → All P cs → P (mix cs n)
+pub one_column : (P : ℕ → Type 0) (cs : List ℕ) (n : ℕ) → n < 2 ^ length cs → ones n ≡ 1 → AllByRecursion P cs → P (mix cs n)
 unfolding mix
 one_column P [] n h one all = absurd (let none = ones_zero n (omega arith) in omega arith)
 one_column P (c ∷ cs) n h one all =
@@ -126,7 +126,7 @@ two_columns (c ∷ cs) n h two apart =
     ]
 
 -- a syndrome that is no column names nothing
-pub names_nothing : (cs : List ℕ) (s : ℕ) → All (λ x. x ≢ s) cs → named_bit cs s ≡ 0
+pub names_nothing : (cs : List ℕ) (s : ℕ) → AllByRecursion (λ x. x ≢ s) cs → named_bit cs s ≡ 0
 unfolding named_bit
 names_nothing [] s none = refl
 names_nothing (c ∷ cs) s none = let no = ne_eqb c s none.0 in let rest = names_nothing cs s none.1 in rw (no, rest) refl

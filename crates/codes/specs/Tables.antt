@@ -3,7 +3,7 @@
 use Rattle.std.specs.Prelude.{◌≡◌, ℕ, ◌+◌, ◌^◌, ◌<◌, ◌≤◌, Bool, true, not, ◌&&◌, ◌||◌, List, [], ◌∷◌, length, drop, Decides, ◌==◌, ◌≢◌, nat_lt, slice_index, refl}
 use Rattle.std.proofs.Common.{sym, subst}
 use Rattle.std.specs.Int.Count.{ones}
-use Rattle.std.specs.List.{ContainsAt as Has, AllByRecursion as All}
+use Rattle.std.specs.List.{ContainsAt, AllByRecursion}
 use Rattle.std.proofs.ByRecursion.{all-has, All-from_get_or, has_get_or, Decides-by_and}
 use Rattle.std.proofs.lemmas.List.{drop_all}
 use Rattle.std.proofs.lemmas.Bool.Decides.{Decides-like, Decides-not, Decides-and, Decides-or, Decides-eqb, Decides-ltb}
@@ -29,13 +29,13 @@ column_decides c =
     Decides-and (nat_lt c 64) (ones c == 3 || ones c == 5) (Decides-ltb c 64)
     (Decides-or (ones c == 3) (ones c == 5) (Decides-eqb (ones c) 3) (Decides-eqb (ones c) 5))
 
-absent_decides : (c : ℕ) (xs : List ℕ) → Decides (absent_test c xs) (All (λ x. x ≢ c) xs)
+absent_decides : (c : ℕ) (xs : List ℕ) → Decides (absent_test c xs) (AllByRecursion (λ x. x ≢ c) xs)
 absent_decides c =
     Decides-by_and (λ x. not (x == c)) (λ x. x ≢ c) (absent_test c) (λ x. Decides-not (x == c) (Decides-eqb x c)) refl (λ x xs. refl)
 
 -- what the columns are, but for their number
 abbrev pub Shape : List ℕ → Type 0
-Shape cs = All (λ c. c < 2 ^ 6) cs × All ThreeOrFive cs × Different cs
+Shape cs = AllByRecursion (λ c. c < 2 ^ 6) cs × AllByRecursion ThreeOrFive cs × Different cs
 
 shape_decides : (cs : List ℕ) → Decides (columns_test cs) (Shape cs)
 shape_decides [] = (λ e. (tt, tt, tt), λ s. refl)
@@ -47,7 +47,7 @@ shape_decides (c ∷ cs) =
 -- one column of a list that has the shape, and the rest
 pub record First (c : ℕ) (rest : List ℕ) : Type 0 where
   pub fits : (c < 2 ^ 6) × ThreeOrFive c
-  pub once : Has rest c → ⊥
+  pub once : ContainsAt rest c → ⊥
 
 module _ (cs : List ℕ) (i : ℕ) (inside : i < length cs) where
   pub shape_first : Shape (drop i cs) → First (slice_index cs i) (drop (i + 1) cs)
@@ -61,7 +61,7 @@ module _ (cs : List ℕ) (i : ℕ) (inside : i < length cs) where
   pub shape_more : First (slice_index cs i) (drop (i + 1) cs) → Shape (drop (i + 1) cs) → Shape (drop i cs)
   shape_more first rest =
       let absent = All-from_get_or (λ x. x ≢ slice_index cs i) (drop (i + 1) cs) 0
-      (λ k h e. first.once (subst (Has (drop (i + 1) cs)) e (has_get_or (drop (i + 1) cs) k 0 h))) in
+      (λ k h e. first.once (subst (ContainsAt (drop (i + 1) cs)) e (has_get_or (drop (i + 1) cs) k 0 h))) in
       subst Shape (sym (rest_at cs i inside)) ((first.fits.0, rest.0), (first.fits.1, rest.1), (absent, rest.2))
 
 pub shape_all : (cs : List ℕ) (i : ℕ) → length cs ≤ i → Shape (drop i cs)

@@ -1,6 +1,6 @@
 // Which tables of columns make a code: a test at run time, and the law for every table that passes it.
 ghost use Rattle.std.specs.Prelude.{◌^◌, ◌<◌, Decides};
-ghost use Rattle.std.specs.List.{ContainsAt as Has};
+ghost use Rattle.std.specs.List.{ContainsAt};
 ghost use Rattle.codes.specs.Columns.{ThreeOrFive, Columns, AnyColumnsLawful};
 
 // Whether the sixteen numbers can serve as columns: all different, below 64, each of three or five ones.
@@ -24,7 +24,7 @@ fn column_fits(column: u8) -> bool
 }
 
 fn repeated(column: u8, rest: &[u8]) -> bool
-    ensures { Decides result (Has rest.now column) }
+    ensures { Decides result (ContainsAt rest.now column) }
 {
     rest.contains(&column)
 }

@@ -1,6 +1,6 @@
 // Worked examples of the two codes.
 ghost use Rattle.std.specs.Prelude.{◌≡◌};
-ghost use Rattle.std.specs.List.{AllByRecursion as All};
+ghost use Rattle.std.specs.List.{AllByRecursion};
 ghost use Rattle.codes.specs.Examples.{Holds, worked_examples};
 
 use crate::names::CodeName;
@@ -17,7 +17,7 @@ pub enum Example {
 // The worked examples, all of which hold.
 pub fn worked_examples() -> [Example; 12]
     ensures listed { result ≡ worked_examples }
-    ensures hold { All Holds result }
+    ensures hold { AllByRecursion Holds result }
 {
     table()
 }

@@ -1,5 +1,5 @@
 use Rattle.std.proofs.Common.{ℕ, ◌+◌, ◌<◌, false, length, get_or, drop, refl, subst, arith}
-use Rattle.std.specs.List.{ContainsAt as Has}
+use Rattle.std.specs.List.{ContainsAt}
 use Rattle.std.proofs.lemmas.Slice.{between_to_end}
 use Rattle.std.proofs.lemmas.Bool.{both_ways}
 use Rattle.std.proofs.lemmas.Bool.Decides.{not_from_Decides}
@@ -18,7 +18,7 @@ returns-then-not-column_fits c =
     let first = shape_first cs i inside (c.loop-i.invariant.1 (shape_from_columns cs good)) in
     elim c.then-not-column_fits.branch [
       | then-not-column_fits-via-then-not-column_fits w ↦ not_from_Decides c.column_fits.result c.column_fits.ensures w.if-not-column_fits.true first.fits
-      | then-not-column_fits-via-else-not-column_fits+then-repeated w ↦ first.once (subst (λ xs. Has xs (get_or cs i 0)) (between_to_end cs (i + 1) 16 (omega arith)) (w.repeated.ensures.0 w.if-repeated.true))
+      | then-not-column_fits-via-else-not-column_fits+then-repeated w ↦ first.once (subst (λ xs. ContainsAt xs (get_or cs i 0)) (between_to_end cs (i + 1) 16 (omega arith)) (w.repeated.ensures.0 w.if-repeated.true))
     ]
     in
     record { decides = (λ e. absurd (both_ways false refl e), λ good. absurd (refuted good)); lawful = any_columns_lawful }
@@ -29,7 +29,7 @@ loop-i-preserved c =
     let i : ℕ = c.loop-i.i in
     let inside : i < length cs = omega arith in
     let first : First (get_or cs i 0) (drop (i + 1) cs) =
-    record { fits = c.column_fits.ensures.0 c.if-not-column_fits.false; once = subst (λ xs. Has xs (get_or cs i 0) → ⊥) (between_to_end cs (i + 1) 16 (omega arith)) (not_from_Decides c.repeated.result c.repeated.ensures c.if-repeated.false) }
+    record { fits = c.column_fits.ensures.0 c.if-not-column_fits.false; once = subst (λ xs. ContainsAt xs (get_or cs i 0) → ⊥) (between_to_end cs (i + 1) 16 (omega arith)) (not_from_Decides c.repeated.result c.repeated.ensures c.if-repeated.false) }
     in
     (λ rest. c.loop-i.invariant.0 (shape_more cs i inside first rest), λ shape. shape_rest cs i inside (c.loop-i.invariant.1 shape))
 
