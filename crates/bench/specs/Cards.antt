@@ -6,10 +6,10 @@ use Rattle.rules.specs.Calls.{dati, datip, dato, datob, read, wrote, refused, An
 use Rattle.rules.specs.Targets.{Placed}
 use Rattle.rules.specs.State.{State, with_store}
 use Rattle.rules.specs.Transfers.{act as call}
-use Rattle.language.specs.declared.act.Act.{Act}
-use Rattle.language.specs.declared.act.Act.TheVariants as act
-use Rattle.language.specs.declared.wrong.Expected.{Expected}
-use Rattle.language.specs.declared.wrong.Expected.TheVariants.{HeadOnce}
+use Rattle.card_language.specs.declared.act.Act.{Act}
+use Rattle.card_language.specs.declared.act.Act.TheVariants as act
+use Rattle.card_language.specs.declared.wrong.Expected.{Expected}
+use Rattle.card_language.specs.declared.wrong.Expected.TheVariants.{HeadOnce}
 use Rattle.answers.specs.declared.answer.Answer.{Answer}
 use Rattle.answers.specs.declared.answer.Answer.TheVariants as answer
 use Rattle.answers.specs.declared.totals.Totals.{Totals}

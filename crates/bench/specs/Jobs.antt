@@ -5,8 +5,8 @@ use Rattle.codes.specs.Names.{coding_of}
 use Rattle.codes.specs.declared.names.CodeName.{CodeName}
 use Rattle.stores.specs.Meaning.{Meaning, write_answer, upset_by}
 use Rattle.stores.specs.declared.fault.Fault.{Fault}
-use Rattle.language.specs.declared.act.Act.{Act}
-use Rattle.language.specs.declared.act.Act.TheVariants as act
+use Rattle.card_language.specs.declared.act.Act.{Act}
+use Rattle.card_language.specs.declared.act.Act.TheVariants as act
 use Rattle.answers.specs.declared.answer.Answer.{Answer}
 use Rattle.answers.specs.declared.answer.Answer.TheVariants as answer
 use Rattle.bench.specs.declared.job.Next.{Next}
@@ -15,10 +15,10 @@ use Rattle.bench.specs.declared.store_job.StoreNext.{StoreNext}
 use Rattle.bench.specs.declared.store_job.StoreNext.TheVariants as then
 use Rattle.answers.specs.declared.totals.Totals.{Totals}
 use Rattle.answers.specs.Answers.{counted}
-use Rattle.language.specs.declared.wrong.Expected.{Expected}
-use Rattle.language.specs.declared.wrong.Expected.TheVariants.{CodeFirst, StoreFirst, PlaceFirst, HeadOnce}
+use Rattle.card_language.specs.declared.wrong.Expected.{Expected}
+use Rattle.card_language.specs.declared.wrong.Expected.TheVariants.{CodeFirst, StoreFirst, PlaceFirst, HeadOnce}
 use Rattle.lines.specs.Lines.{uncommented, words, first}
-use Rattle.language.specs.Acts.{Mistake, and_then, parsed}
+use Rattle.card_language.specs.Acts.{Mistake, and_then, parsed}
 
 -- a mistake is said of the line's first word
 abbrev pub said_of : {T : Type 0} → List ℕ → Result T Expected → Result T Mistake

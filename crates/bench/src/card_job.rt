@@ -1,6 +1,6 @@
 // A job on a card over a bench store: what each line answers, and what it does to the card.
 ghost use Rattle.std.specs.Prelude.{◌≡◌, None};
-ghost use Rattle.language.specs.Acts.{told};
+ghost use Rattle.card_language.specs.Acts.{told};
 ghost use Rattle.rules.specs.Calls.{refusal, read_answer, wrote_answer};
 ghost use Rattle.rules.specs.Power.{powered_up};
 ghost use Rattle.rules.specs.Targets.{placed};
@@ -12,8 +12,8 @@ use crate::job::{judgement_answer, said_of};
 use crate::store_job::{StoreJob, content_answer, struck_answer};
 use answers::{Answer, Totals};
 use card::{Module, Placement, Refusal, Treatment, WordRead};
+use card_language::{Act, Expected, Wrong, parse_line};
 use codes::{Code, pack};
-use language::{Act, Expected, Wrong, parse_line};
 use stores::Bench;
 
 // It means its card, and what the job has come to so far.

@@ -2,14 +2,14 @@
 ghost use Rattle.std.specs.Prelude.{◌≡◌, None};
 ghost use Rattle.bench.specs.declared.job.Next.TheVariants.{Answered};
 ghost use Rattle.std.specs.Option.{ok_or};
-ghost use Rattle.language.specs.declared.wrong.Expected.TheVariants.{CodeFirst};
-ghost use Rattle.language.specs.Acts.{told};
+ghost use Rattle.card_language.specs.declared.wrong.Expected.TheVariants.{CodeFirst};
+ghost use Rattle.card_language.specs.Acts.{told};
 ghost use Rattle.codes.specs.Names.{coding_of};
 ghost use Rattle.bench.specs.Jobs.{said_of, line_given, line_left, checks_answer, judged_answer, judgement_answer, performed, chosen_after};
 
 use answers::Answer;
+use card_language::{Act, Expected, Make, Wrong, parse_line};
 use codes::{CodeName, Verdict, pack};
-use language::{Act, Expected, Make, Wrong, parse_line};
 use lines::Words;
 
 // It means the code that its lines have chosen, if any.

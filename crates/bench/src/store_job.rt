@@ -1,14 +1,14 @@
 // A job on a bench store: what each line answers, and what it does to the store.
 ghost use Rattle.std.specs.Prelude.{◌≡◌, None};
-ghost use Rattle.language.specs.Acts.{told};
+ghost use Rattle.card_language.specs.Acts.{told};
 ghost use Rattle.bench.specs.declared.store_job.StoreNext.TheVariants.{Answered};
 ghost use Rattle.answers.specs.Answers.{totals_of};
 ghost use Rattle.bench.specs.Jobs.{line_given, line_left, struck_answer, content_answer, performed_on, store_after, totals_by};
 
 use crate::job::{checks_answer, judged_answer, said_of};
 use answers::{Answer, Totals};
+use card_language::{Act, Expected, Wrong, parse_line};
 use codes::CodeName;
-use language::{Act, Expected, Wrong, parse_line};
 use stores::{Bench, Fault};
 
 // What a line gives until the card is placed.

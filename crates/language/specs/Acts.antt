@@ -39,72 +39,37 @@ named w =
     (cond (bytes_eq w (codes "parity")) (Ok Parity)
     (Err (expected.CodeName, w)))
 
--- no word is left
-abbrev pub ended : List (List ℕ) → Result (Unit {0}) Mistake
-ended [] = Ok tt
-ended (w ∷ ws) = Err (expected.End, w)
+-- the act, where no word is left
+abbrev pub ended : Act → List (List ℕ) → Result Act Mistake
+ended a [] = Ok a
+ended a (w ∷ ws) = Err (expected.End, w)
 
--- one, two or three numbers, each up to its limit, and then the end of the line
-abbrev pub one_number : ℕ → List (List ℕ) → Result ℕ Mistake
-one_number most ws =
-    and_then (numbered most (first ws)) (λ n.
-    and_then (ended (others ws)) (λ done. Ok n))
-
-abbrev pub two_numbers : ℕ → ℕ → List (List ℕ) → Result (ℕ × ℕ) Mistake
-two_numbers most next ws =
-    and_then (numbered most (first ws)) (λ m.
-    and_then (one_number next (others ws)) (λ n. Ok (m, n)))
-
-abbrev pub three_numbers : ℕ → List (List ℕ) → Result (ℕ × ℕ × ℕ) Mistake
-three_numbers most ws =
-    and_then (numbered most (first ws)) (λ l.
-    and_then (two_numbers most most (others ws)) (λ m. Ok (l, m.0, m.1)))
-
--- the largest number of a line, word of data, byte, and check bits of a cell
+-- the largest number of a line
 abbrev pub most_number : ℕ
 most_number = 4294967295
 
+-- the largest word of data
 abbrev pub most_word : ℕ
 most_word = 65535
 
-abbrev pub most_byte : ℕ
-most_byte = 255
-
+-- the largest check bits of a cell
 abbrev pub most_checks : ℕ
 most_checks = 63
 
--- what the words after each keyword ask for
+-- what the words after `code` ask for
 abbrev pub code_act : List (List ℕ) → Result Act Mistake
-code_act ws =
-    and_then (named (first ws)) (λ name.
-    and_then (ended (others ws)) (λ done. Ok (act.Code name)))
+code_act ws = and_then (named (first ws)) (λ name. ended (act.Code name) (others ws))
 
-abbrev pub place_act : List (List ℕ) → Result Act Mistake
-place_act ws = and_then (three_numbers most_number ws) (λ n. Ok (act.Place n.0 n.1 n.2))
-
+-- what the words after `checks` ask for
 abbrev pub checks_act : List (List ℕ) → Result Act Mistake
-checks_act ws = and_then (one_number most_word ws) (λ word. Ok (act.Checks word))
+checks_act ws = and_then (numbered most_word (first ws)) (λ word. ended (act.Checks word) (others ws))
 
+-- what the words after `judge` ask for
 abbrev pub judge_act : List (List ℕ) → Result Act Mistake
-judge_act ws = and_then (two_numbers most_word most_checks ws) (λ n. Ok (act.Judge n.0 n.1))
-
-abbrev pub dati_act : List (List ℕ) → Result Act Mistake
-dati_act ws = and_then (one_number most_number ws) (λ address. Ok (act.Dati address))
-
-abbrev pub datip_act : List (List ℕ) → Result Act Mistake
-datip_act ws = and_then (one_number most_number ws) (λ address. Ok (act.Datip address))
-
-abbrev pub dato_act : List (List ℕ) → Result Act Mistake
-dato_act ws = and_then (two_numbers most_number most_word ws) (λ n. Ok (act.Dato n.0 n.1))
-
-abbrev pub datob_act : List (List ℕ) → Result Act Mistake
-datob_act ws = and_then (two_numbers most_number most_byte ws) (λ n. Ok (act.Datob n.0 n.1))
-
-abbrev pub strike_act : List (List ℕ) → Result Act Mistake
-strike_act ws = and_then (two_numbers most_number most_number ws) (λ n. Ok (act.Strike n.0 n.1))
-
-abbrev pub cell_act : List (List ℕ) → Result Act Mistake
-cell_act ws = and_then (one_number most_number ws) (λ cell. Ok (act.Cell cell))
+judge_act ws =
+    and_then (numbered most_word (first ws)) (λ stored.
+    and_then (numbered most_checks (first (others ws))) (λ checks.
+    ended (act.Judge stored checks) (others (others ws))))
 
 -- the words two by two; where their number is odd, the last one has the empty word at its side, which is no number
 abbrev pub pairs : List (List ℕ) → List (List ℕ × List ℕ)
@@ -135,15 +100,20 @@ listed banks = record { banks = take most_listed (banks ++ replicate most_listed
 abbrev pub bank_list : List (List ℕ) → Result BankList Mistake
 bank_list ws = and_then (banks_of (pairs ws)) (λ banks. Ok (listed banks))
 
--- what the words after each make of store ask for
+-- what the words after `store flat` ask for
 abbrev pub flat_act : List (List ℕ) → Result Act Mistake
-flat_act ws = and_then (one_number most_number ws) (λ cells. Ok (act.Store (make.Flat cells)))
+flat_act ws = and_then (numbered most_number (first ws)) (λ cells. ended (act.Store (make.Flat cells)) (others ws))
 
+-- what the words after `store split` ask for
 abbrev pub split_act : List (List ℕ) → Result Act Mistake
-split_act ws = and_then (one_number most_number ws) (λ cells. Ok (act.Store (make.Split cells)))
+split_act ws = and_then (numbered most_number (first ws)) (λ cells. ended (act.Store (make.Split cells)) (others ws))
 
+-- what the words after `store pair` ask for
 abbrev pub pair_act : List (List ℕ) → Result Act Mistake
-pair_act ws = and_then (two_numbers most_number most_number ws) (λ n. Ok (act.Store (make.Pair n.0 n.1)))
+pair_act ws =
+    and_then (numbered most_number (first ws)) (λ flat.
+    and_then (numbered most_number (first (others ws))) (λ split.
+    ended (act.Store (make.Pair flat split)) (others (others ws))))
 
 -- what the words after `store map` ask for
 abbrev pub map_act : List (List ℕ) → Result Act Mistake
@@ -174,29 +144,27 @@ make_act w ws =
 abbrev pub store_act : List (List ℕ) → Result Act Mistake
 store_act ws = make_act (first ws) (others ws)
 
--- what a keyword and the words after it ask for: the head of a job, acts without a store, bus transfers, and what a bench does
-abbrev pub bench_act : List ℕ → List (List ℕ) → Result Act Mistake
-bench_act keyword ws =
-    cond (bytes_eq keyword (codes "strike")) (strike_act ws)
-    (cond (bytes_eq keyword (codes "cell")) (cell_act ws)
-    (Err (expected.Act, keyword)))
+-- what the words after `strike` ask for
+abbrev pub strike_act : List (List ℕ) → Result Act Mistake
+strike_act ws =
+    and_then (numbered most_number (first ws)) (λ cell.
+    and_then (numbered most_number (first (others ws))) (λ mask.
+    ended (act.Strike cell mask) (others (others ws))))
 
-abbrev pub transfer_act : List ℕ → List (List ℕ) → Result Act Mistake
-transfer_act keyword ws =
-    cond (bytes_eq keyword (codes "dati")) (dati_act ws)
-    (cond (bytes_eq keyword (codes "datip")) (datip_act ws)
-    (cond (bytes_eq keyword (codes "dato")) (dato_act ws)
-    (cond (bytes_eq keyword (codes "datob")) (datob_act ws)
-    (bench_act keyword ws))))
+-- what the words after `cell` ask for
+abbrev pub cell_act : List (List ℕ) → Result Act Mistake
+cell_act ws = and_then (numbered most_number (first ws)) (λ cell. ended (act.Cell cell) (others ws))
 
+-- what a keyword and the words after it ask for
 abbrev pub act_of : List ℕ → List (List ℕ) → Result Act Mistake
 act_of keyword ws =
     cond (bytes_eq keyword (codes "code")) (code_act ws)
     (cond (bytes_eq keyword (codes "store")) (store_act ws)
-    (cond (bytes_eq keyword (codes "place")) (place_act ws)
     (cond (bytes_eq keyword (codes "checks")) (checks_act ws)
     (cond (bytes_eq keyword (codes "judge")) (judge_act ws)
-    (transfer_act keyword ws)))))
+    (cond (bytes_eq keyword (codes "strike")) (strike_act ws)
+    (cond (bytes_eq keyword (codes "cell")) (cell_act ws)
+    (Err (expected.Act, keyword)))))))
 
 -- what the words of a line ask for, if there are any
 abbrev pub asked : List (List ℕ) → Result (Option Act) Mistake

@@ -6,37 +6,8 @@ use codes::CodeName;
 pub enum Act {
     Code(CodeName),
     Store(Make),
-    Place {
-        capacity: u32,
-        start: u32,
-        control: u32,
-    },
-    Checks {
-        word: u16,
-    },
-    Judge {
-        data: u16,
-        checks: u8,
-    },
-    Dati {
-        address: u32,
-    },
-    Datip {
-        address: u32,
-    },
-    Dato {
-        address: u32,
-        word: u16,
-    },
-    Datob {
-        address: u32,
-        byte: u8,
-    },
-    Strike {
-        cell: u32,
-        mask: u32,
-    },
-    Cell {
-        cell: u32,
-    },
+    Checks { word: u16 },
+    Judge { data: u16, checks: u8 },
+    Strike { cell: u32, mask: u32 },
+    Cell { cell: u32 },
 }

@@ -2,19 +2,16 @@
 ghost use Rattle.std.specs.Prelude.{◌≡◌};
 ghost use Rattle.lines.specs.Lines.{left};
 ghost use Rattle.language.specs.Acts.{told, named, act_of, parsed};
-ghost use Rattle.language.specs.Acts.{code_act, place_act, checks_act, judge_act, transfer_act, bench_act};
-ghost use Rattle.language.specs.Acts.{dati_act, datip_act, dato_act, datob_act, strike_act, cell_act};
+ghost use Rattle.language.specs.Acts.{code_act, checks_act, judge_act, strike_act, cell_act};
 
 use crate::act::Act;
-use crate::parts::{MOST_NUMBER, end_of_line, is, one_number, three_numbers, two_numbers};
+use crate::parts::{MOST_NUMBER, bounded, ended, is};
 use crate::store_line::store_act;
 use crate::wrong::{Expected, Wrong};
 use codes::CodeName;
 use lines::Words;
 
 const MOST_WORD: u32 = 65535;
-
-const MOST_BYTE: u32 = 255;
 
 const MOST_CHECKS: u32 = 63;
 
@@ -37,37 +34,11 @@ fn act_after<'a>(keyword: &'a [u8], words: Words<'a>) -> Result<Act, Wrong<'a>>
         code_act(words)
     } else if is(keyword, "store") {
         store_act(words)
-    } else if is(keyword, "place") {
-        place_act(words)
     } else if is(keyword, "checks") {
         checks_act(words)
     } else if is(keyword, "judge") {
         judge_act(words)
-    } else {
-        transfer_act(keyword, words)
-    }
-}
-
-fn transfer_act<'a>(keyword: &'a [u8], words: Words<'a>) -> Result<Act, Wrong<'a>>
-    ensures { told result ≡ transfer_act keyword.now (left words.entry) }
-{
-    if is(keyword, "dati") {
-        dati_act(words)
-    } else if is(keyword, "datip") {
-        datip_act(words)
-    } else if is(keyword, "dato") {
-        dato_act(words)
-    } else if is(keyword, "datob") {
-        datob_act(words)
-    } else {
-        bench_act(keyword, words)
-    }
-}
-
-fn bench_act<'a>(keyword: &'a [u8], words: Words<'a>) -> Result<Act, Wrong<'a>>
-    ensures { told result ≡ bench_act keyword.now (left words.entry) }
-{
-    if is(keyword, "strike") {
+    } else if is(keyword, "strike") {
         strike_act(words)
     } else if is(keyword, "cell") {
         cell_act(words)
@@ -83,84 +54,37 @@ fn code_act<'a>(mut words: Words<'a>) -> Result<Act, Wrong<'a>>
     ensures { told result ≡ code_act (left words.entry) }
 {
     let name = code_name(words.next_word())?;
-    end_of_line(words)?;
-    Ok(Act::Code(name))
+    ended(Act::Code(name), words)
 }
 
-fn place_act<'a>(words: Words<'a>) -> Result<Act, Wrong<'a>>
-    ensures { told result ≡ place_act (left words.entry) }
-{
-    let (capacity, start, control) = three_numbers(words, MOST_NUMBER)?;
-    Ok(Act::Place {
-        capacity,
-        start,
-        control,
-    })
-}
-
-fn checks_act<'a>(words: Words<'a>) -> Result<Act, Wrong<'a>>
+fn checks_act<'a>(mut words: Words<'a>) -> Result<Act, Wrong<'a>>
     ensures { told result ≡ checks_act (left words.entry) }
 {
-    let word = one_number(words, MOST_WORD)? as u16;
-    Ok(Act::Checks { word })
+    let word = bounded(words.next_word(), MOST_WORD)? as u16;
+    ended(Act::Checks { word }, words)
 }
 
-fn judge_act<'a>(words: Words<'a>) -> Result<Act, Wrong<'a>>
+fn judge_act<'a>(mut words: Words<'a>) -> Result<Act, Wrong<'a>>
     ensures { told result ≡ judge_act (left words.entry) }
 {
-    let (data, checks) = two_numbers(words, MOST_WORD, MOST_CHECKS)?;
-    Ok(Act::Judge {
-        data: data as u16,
-        checks: checks as u8,
-    })
+    let data = bounded(words.next_word(), MOST_WORD)? as u16;
+    let checks = bounded(words.next_word(), MOST_CHECKS)? as u8;
+    ended(Act::Judge { data, checks }, words)
 }
 
-fn dati_act<'a>(words: Words<'a>) -> Result<Act, Wrong<'a>>
-    ensures { told result ≡ dati_act (left words.entry) }
-{
-    let address = one_number(words, MOST_NUMBER)?;
-    Ok(Act::Dati { address })
-}
-
-fn datip_act<'a>(words: Words<'a>) -> Result<Act, Wrong<'a>>
-    ensures { told result ≡ datip_act (left words.entry) }
-{
-    let address = one_number(words, MOST_NUMBER)?;
-    Ok(Act::Datip { address })
-}
-
-fn dato_act<'a>(words: Words<'a>) -> Result<Act, Wrong<'a>>
-    ensures { told result ≡ dato_act (left words.entry) }
-{
-    let (address, word) = two_numbers(words, MOST_NUMBER, MOST_WORD)?;
-    Ok(Act::Dato {
-        address,
-        word: word as u16,
-    })
-}
-
-fn datob_act<'a>(words: Words<'a>) -> Result<Act, Wrong<'a>>
-    ensures { told result ≡ datob_act (left words.entry) }
-{
-    let (address, byte) = two_numbers(words, MOST_NUMBER, MOST_BYTE)?;
-    Ok(Act::Datob {
-        address,
-        byte: byte as u8,
-    })
-}
-
-fn strike_act<'a>(words: Words<'a>) -> Result<Act, Wrong<'a>>
+fn strike_act<'a>(mut words: Words<'a>) -> Result<Act, Wrong<'a>>
     ensures { told result ≡ strike_act (left words.entry) }
 {
-    let (cell, mask) = two_numbers(words, MOST_NUMBER, MOST_NUMBER)?;
-    Ok(Act::Strike { cell, mask })
+    let cell = bounded(words.next_word(), MOST_NUMBER)?;
+    let mask = bounded(words.next_word(), MOST_NUMBER)?;
+    ended(Act::Strike { cell, mask }, words)
 }
 
-fn cell_act<'a>(words: Words<'a>) -> Result<Act, Wrong<'a>>
+fn cell_act<'a>(mut words: Words<'a>) -> Result<Act, Wrong<'a>>
     ensures { told result ≡ cell_act (left words.entry) }
 {
-    let cell = one_number(words, MOST_NUMBER)?;
-    Ok(Act::Cell { cell })
+    let cell = bounded(words.next_word(), MOST_NUMBER)?;
+    ended(Act::Cell { cell }, words)
 }
 
 fn code_name<'a>(word: &'a [u8]) -> Result<CodeName, Wrong<'a>>

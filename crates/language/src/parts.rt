@@ -2,8 +2,9 @@
 ghost use Rattle.std.specs.Prelude.{◌≡◌, ◌≤◌, IfOk};
 ghost use Rattle.std.specs.Str.{bytes_eq};
 ghost use Rattle.lines.specs.Lines.{left};
-ghost use Rattle.language.specs.Acts.{told, numbered, ended, one_number, two_numbers, three_numbers};
+ghost use Rattle.language.specs.Acts.{told, numbered, ended};
 
+use crate::act::Act;
 use crate::wrong::{Expected, Wrong};
 use lines::{Words, number};
 
@@ -29,53 +30,17 @@ pub(crate) fn bounded<'a>(word: &'a [u8], most: u32) -> Result<u32, Wrong<'a>>
     }
 }
 
-// The end of the line.
-pub(crate) fn end_of_line<'a>(mut words: Words<'a>) -> Result<(), Wrong<'a>>
-    ensures { told result ≡ ended (left words.entry) }
+// The act, where no word is left.
+pub(crate) fn ended<'a>(act: Act, mut words: Words<'a>) -> Result<Act, Wrong<'a>>
+    ensures { told result ≡ ended act (left words.entry) }
 {
     let word = words.next_word();
     if word.is_empty() {
-        Ok(())
+        Ok(act)
     } else {
         Err(Wrong {
             expected: Expected::End,
             found: word,
         })
     }
-}
-
-// One number and the end of the line.
-pub(crate) fn one_number<'a>(mut words: Words<'a>, most: u32) -> Result<u32, Wrong<'a>>
-    ensures value { told result ≡ one_number most (left words.entry) }
-    ensures bound { IfOk result (λ n. n ≤ most) }
-{
-    let n = bounded(words.next_word(), most)?;
-    end_of_line(words)?;
-    Ok(n)
-}
-
-// Two numbers, each with its limit, and the end of the line.
-pub(crate) fn two_numbers<'a>(
-    mut words: Words<'a>,
-    most: u32,
-    next: u32,
-) -> Result<(u32, u32), Wrong<'a>>
-    ensures value { told result ≡ two_numbers most next (left words.entry) }
-    ensures bound { IfOk result (λ n. (n.0 ≤ most) × (n.1 ≤ next)) }
-{
-    let m = bounded(words.next_word(), most)?;
-    let n = one_number(words, next)?;
-    Ok((m, n))
-}
-
-// Three numbers and the end of the line.
-pub(crate) fn three_numbers<'a>(
-    mut words: Words<'a>,
-    most: u32,
-) -> Result<(u32, u32, u32), Wrong<'a>>
-    ensures { told result ≡ three_numbers most (left words.entry) }
-{
-    let l = bounded(words.next_word(), most)?;
-    let (m, n) = two_numbers(words, most, most)?;
-    Ok((l, m, n))
 }

@@ -6,7 +6,7 @@ ghost use Rattle.language.specs.Acts.{flat_act, split_act, pair_act, map_act, ba
 
 use crate::act::Act;
 use crate::make::{BankList, Make};
-use crate::parts::{MOST_NUMBER, bounded, is, one_number, two_numbers};
+use crate::parts::{MOST_NUMBER, bounded, ended, is};
 use crate::wrong::{Expected, Wrong};
 use lines::Words;
 use maps::Bank;
@@ -39,25 +39,26 @@ fn make_act<'a>(make: &'a [u8], words: Words<'a>) -> Result<Act, Wrong<'a>>
     }
 }
 
-fn flat_act<'a>(words: Words<'a>) -> Result<Act, Wrong<'a>>
+fn flat_act<'a>(mut words: Words<'a>) -> Result<Act, Wrong<'a>>
     ensures { told result ≡ flat_act (left words.entry) }
 {
-    let cells = one_number(words, MOST_NUMBER)?;
-    Ok(Act::Store(Make::Flat { cells }))
+    let cells = bounded(words.next_word(), MOST_NUMBER)?;
+    ended(Act::Store(Make::Flat { cells }), words)
 }
 
-fn split_act<'a>(words: Words<'a>) -> Result<Act, Wrong<'a>>
+fn split_act<'a>(mut words: Words<'a>) -> Result<Act, Wrong<'a>>
     ensures { told result ≡ split_act (left words.entry) }
 {
-    let cells = one_number(words, MOST_NUMBER)?;
-    Ok(Act::Store(Make::Split { cells }))
+    let cells = bounded(words.next_word(), MOST_NUMBER)?;
+    ended(Act::Store(Make::Split { cells }), words)
 }
 
-fn pair_act<'a>(words: Words<'a>) -> Result<Act, Wrong<'a>>
+fn pair_act<'a>(mut words: Words<'a>) -> Result<Act, Wrong<'a>>
     ensures { told result ≡ pair_act (left words.entry) }
 {
-    let (first, second) = two_numbers(words, MOST_NUMBER, MOST_NUMBER)?;
-    Ok(Act::Store(Make::Pair { first, second }))
+    let first = bounded(words.next_word(), MOST_NUMBER)?;
+    let second = bounded(words.next_word(), MOST_NUMBER)?;
+    ended(Act::Store(Make::Pair { first, second }), words)
 }
 
 fn map_act<'a>(mut words: Words<'a>) -> Result<Act, Wrong<'a>>

@@ -15,7 +15,6 @@ pub enum Expected {
     End,
     CodeFirst,
     StoreFirst,
-    PlaceFirst,
     HeadOnce,
 }
 
@@ -31,18 +30,14 @@ impl fmt::Display for Expected {
 
     fn fmt<W: fmt::Write>(&self, f: &mut fmt::Formatter<W>) -> fmt::Result {
         match *self {
-            Expected::Act => write!(
-                f,
-                "code, store, place, checks, judge, dati, datip, dato, datob, strike or cell"
-            ),
+            Expected::Act => write!(f, "code, store, checks, judge, strike or cell"),
             Expected::CodeName => write!(f, "am2960 or parity"),
             Expected::Make => write!(f, "flat, split, pair, map or banks"),
             Expected::Number { most } => write!(f, "a number at most {most}"),
             Expected::End => write!(f, "the end of the line"),
             Expected::CodeFirst => write!(f, "a code line first"),
             Expected::StoreFirst => write!(f, "a store line first"),
-            Expected::PlaceFirst => write!(f, "a place line first"),
-            Expected::HeadOnce => write!(f, "code, store and place once each, in this order"),
+            Expected::HeadOnce => write!(f, "code and store once each, in this order"),
         }
     }
 }

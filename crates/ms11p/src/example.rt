@@ -1,37 +1,22 @@
 // The job that is run where none is given.
 
-// A page of text keyed in by words and bytes, struck, and read back.
+// Both codes at work: words encoded, one and two places struck, and what each verdict is.
 pub(crate) const DEFAULT_JOB: &[u8] =
-    b"# A page of text on a card of 8,192 words at address 0: keyed in by words and bytes, struck, and read back.
+    b"# The Am2960 code: one struck place is mended, two are found.
 code am2960
-store flat 8192
-place 8192 0 0
-dato 0o17772100 1     # control word 0: enable the parity mark
+checks 0              # the checks of 0 are C1 and C2, 4 + 8
+checks 512            # 12 joined with the column of bit 9, 37
+judge 512 41          # the word 512 with its checks
+judge 0 41            # bit 9 struck: the syndrome is its column, and the word comes back
+judge 512 40          # check bit CX struck: the data are as stored
+judge 515 41          # bits 0 and 1 struck: found, and not mended
+judge 0 0             # a cell of all zeros is no word
 
-# KYRIE ELEISON, two letters to a word, the first in the low byte
-dato 1000 22859       # KY
-dato 1002 18770       # RI
-datob 1004 69         # E, and a space after it
-datob 1005 32
-dato 1006 19525       # EL
-dato 1008 18757       # EI
-dato 1010 20307       # SO
-datob 1012 78         # N
-
-strike 500 256        # one bit of KY
-strike 503 65536      # one check bit of EL
-dati 1000             # the word comes back, and its cell stays struck
-dati 1006
-dati 0o17772100       # bit 4: a single error, and address bits 11 to 17 of its block, here 0
-
-strike 505 3          # two bits of SO
-datob 1011 65         # a letter keyed over it: the word is bad, and the letter is lost
-dati 1010             # it still says so, and the parity mark warns the processor
-dati 0o17772100       # bit 15: an uncorrectable error
-dato 1010 20307       # SO keyed in again as a whole word
-dati 1010
-
-dati 0o17772102       # another card's control word
-dati 16384            # past the last word
-datob 0o17772100 1    # the control word takes no bytes
+# Byte parity: one struck place is found, none is mended.
+code parity
+checks 512            # one bit for each byte, which makes its ones odd
+judge 512 1           # the word 512 with its checks
+judge 513 1           # bit 0 struck
+judge 512 3           # the check bit of the high byte struck
+judge 515 1           # bits 0 and 1 struck: two in one byte are not found
 ";

@@ -1,14 +1,14 @@
 // The bench program: runs jobs of the job language, and prints what each act answers.
 #![tactic(auto)]
 
+mod bench;
 mod example;
-mod output;
-mod reading;
+mod lines;
 mod stop;
 
+use bench::Output;
 use example::DEFAULT_JOB;
-use output::Output;
-use reading::Lines;
+use lines::Lines;
 use std::io::{BufReader, BufWriter, Write};
 use std::process::ExitCode;
 use std::{env, fs};

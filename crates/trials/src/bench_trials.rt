@@ -2,8 +2,8 @@
 use answers::Answer;
 use bench::{CardJob, Job, Next, StoreJob, StoreNext};
 use card::Placement;
+use card_language::{Expected, Make, Wrong};
 use codes::{Am2960, CodeName, Verdict};
-use language::{Expected, Make, Wrong};
 use std::test::Fail;
 use stores::{Cause, Fault, Flat};
 

@@ -1,8 +1,12 @@
-// Lines of a job, good and wrong.
-use codes::CodeName;
-use language::{Act, BankList, Expected, Make, Wrong, parse_line, wrong_text};
+// Lines, numbers and texts that a job meets.
+use codes::{CodeName, Verdict};
+use language::{
+    Act, Answer, BankList, Expected, Job, Make, Next, StoreJob, Wrong, line_content, number,
+    parse_line, wrong_text,
+};
 use maps::Bank;
 use std::test::Fail;
+use stores::{Cause, Fault, Flat};
 
 fn mistake(line: &[u8]) -> Option<Wrong<'_>> {
     match parse_line(line) {
@@ -93,52 +97,6 @@ fn good_lines_of_stores(rt: HostRuntime) {
     assert!(rt; matches!(parse_line(b"cell 7"), Ok(Some(Act::Cell { cell: 7 }))));
 }
 
-#[test]
-fn good_lines_of_cards(rt: HostRuntime) {
-    assert!(rt;
-        matches!(
-            parse_line(b"place 8192 0 16"),
-            Ok(Some(Act::Place {
-                capacity: 8192,
-                start: 0,
-                control: 16
-            }))
-        )
-    );
-    assert!(rt;
-        matches!(
-            parse_line(b"dati 0o17772100"),
-            Ok(Some(Act::Dati { address: 4191296 }))
-        )
-    );
-    assert!(rt;
-        matches!(
-            parse_line(b"datip 4294967295"),
-            Ok(Some(Act::Datip {
-                address: 4294967295
-            }))
-        )
-    );
-    assert!(rt;
-        matches!(
-            parse_line(b"dato 0 65535"),
-            Ok(Some(Act::Dato {
-                address: 0,
-                word: 65535
-            }))
-        )
-    );
-    assert!(rt;
-        matches!(
-            parse_line(b"datob 9 255"),
-            Ok(Some(Act::Datob {
-                address: 9,
-                byte: 255
-            }))
-        )
-    );
-}
-
 // The banks of a map line, or none where it is no such line.
 fn banks(line: &[u8]) -> Option<BankList> {
     match parse_line(line) {
@@ -205,16 +163,21 @@ fn mistakes(rt: HostRuntime) {
         mistake(b"judge 1 64"),
         wrong(Expected::Number { most: 63 }, b"64")
     );
-    assert_eq!(rt; mistake(b"dato 0 65536"), wrong(word, b"65536"));
-    assert_eq!(rt;
-        mistake(b"datob 0 256"),
-        wrong(Expected::Number { most: 255 }, b"256")
-    );
-    assert_eq!(rt; mistake(b"place 8192 0 0 0"), wrong(Expected::End, b"0"));
     assert_eq!(rt;
         mistake(b"checks 1 \xc3\xa9 2"),
         wrong(Expected::End, b"\xc3\xa9")
     );
+}
+
+#[test]
+fn limits(rt: HostRuntime) {
+    assert_eq!(rt; number(b"4294967295", u32::MAX), Some(4294967295));
+    assert_eq!(rt; number(b"4294967296", u32::MAX), None);
+    assert_eq!(rt; number(b"99999999999999999999", u32::MAX), None);
+    assert_eq!(rt; number(b"00000000000000000000007", 7), Some(7));
+    assert_eq!(rt; number(b"0o18", u32::MAX), None);
+    assert_eq!(rt; number(b"0o", u32::MAX), None);
+    assert_eq!(rt; number(b"+1", u32::MAX), None);
 }
 
 #[test]
@@ -239,7 +202,98 @@ fn texts(rt: HostRuntime) -> Result<(), Fail> {
     )?;
     assert!(rt;
         ended.as_str()
-            == "line 1: expected code, store, place, checks, judge, dati, datip, dato, datob, strike or cell, found the end of the line"
+            == "line 1: expected code, store, checks, judge, strike or cell, found the end of the line"
     );
+    let judged = Answer::Judgement {
+        verdict: Verdict::Mended,
+        word: 65535,
+        syndrome: 63,
+    };
+    let answer = format!(in heap; "{judged}")?;
+    assert!(rt; answer.as_str() == "mended 65535 syndrome 63");
+    let faulted = Answer::Faulted(Fault {
+        cause: Cause::NotFitted,
+        layer: 255,
+        cell: 4294967295,
+    });
+    let fault = format!(in heap; "{faulted}")?;
+    assert!(rt; fault.as_str() == "fault cause 3 layer 255 cell 4294967295");
     Ok(())
+}
+
+#[test]
+fn the_head_of_a_job(rt: HostRuntime) {
+    let mut job = Job::new();
+    assert!(rt;
+        matches!(
+            job.run_line(b"store flat 6"),
+            Err(Wrong {
+                expected: Expected::CodeFirst,
+                found: b"store"
+            })
+        )
+    );
+    assert!(rt; matches!(job.run_line(b"code am2960"), Ok(Next::Answered(None))));
+    assert!(rt; job.run_line(b"code parity x").is_err());
+    assert!(rt;
+        matches!(
+            job.run_line(b"checks 512"),
+            Ok(Next::Answered(Some(Answer::Checks { checks: 41 })))
+        )
+    );
+    assert!(rt;
+        matches!(
+            job.run_line(b"cell 1"),
+            Err(Wrong {
+                expected: Expected::StoreFirst,
+                found: b"cell"
+            })
+        )
+    );
+    assert!(rt;
+        matches!(
+            job.run_line(b"store flat 6"),
+            Ok(Next::Store(CodeName::Am2960, Make::Flat { cells: 6 }))
+        )
+    );
+}
+
+#[test]
+fn a_job_on_a_store(rt: HostRuntime) {
+    let mut cells = [0; 6];
+    let mut job = StoreJob::new(CodeName::Am2960, Flat::new(&mut cells));
+    assert_eq!(rt; job.run_line(b"strike 4 0o14"), Ok(Some(Answer::Struck)));
+    let content = Answer::Content { content: 12 };
+    assert_eq!(rt; job.run_line(b"cell 4"), Ok(Some(content)));
+    let fault = Fault {
+        cause: Cause::PastCount,
+        layer: 1,
+        cell: 6,
+    };
+    assert_eq!(rt;
+        job.run_line(b"strike 6 1"),
+        Ok(Some(Answer::Faulted(fault)))
+    );
+    let mended = Answer::Judgement {
+        verdict: Verdict::Mended,
+        word: 512,
+        syndrome: 37,
+    };
+    assert_eq!(rt; job.run_line(b"judge 0 41"), Ok(Some(mended)));
+    let head_once = Err(Wrong {
+        expected: Expected::HeadOnce,
+        found: b"code",
+    });
+    assert_eq!(rt; job.run_line(b"code parity"), head_once);
+}
+
+#[test]
+fn ends_of_lines(rt: HostRuntime) {
+    for line in [b"a".as_slice(), b"a\n", b"a\r\n"] {
+        assert_eq!(rt; line_content(line), b"a".as_slice());
+    }
+    for line in [b"".as_slice(), b"\n", b"\r\n"] {
+        assert_eq!(rt; line_content(line), b"".as_slice());
+    }
+    assert_eq!(rt; line_content(b"a\n\r"), b"a\n\r".as_slice());
 }

@@ -5,6 +5,8 @@
 #[cfg(test)]
 mod bench_trials;
 #[cfg(test)]
+mod card_language_trials;
+#[cfg(test)]
 mod language_trials;
 #[cfg(test)]
 mod lines_trials;

@@ -12,6 +12,3 @@ returns-in-Number-clause-writes g c = rw c.in-Number.is (search rules)
 
 pub returns-in-StoreFirst-clause-writes : goal.returns-in-StoreFirst-clause-writes
 returns-in-StoreFirst-clause-writes g c = rw c.in-StoreFirst.is (search rules)
-
-pub returns-in-PlaceFirst-clause-writes : goal.returns-in-PlaceFirst-clause-writes
-returns-in-PlaceFirst-clause-writes g c = rw c.in-PlaceFirst.is (search rules)

@@ -1,0 +1,3 @@
+pub mod Acts
+pub mod Banks
+pub mod Texts

@@ -1,0 +1,5 @@
+use Rattle.std.proofs.Common.{append_assoc, rules}
+use Rattle.card_language.proofs.wrong.push_escaped.Goals as goal
+
+pub returns-in_ok-push : goal.returns-in_ok-push
+returns-in_ok-push c = search (rules, append_assoc)

@@ -1,0 +1,245 @@
+// Lines of a job, good and wrong.
+use card_language::{Act, BankList, Expected, Make, Wrong, parse_line, wrong_text};
+use codes::CodeName;
+use maps::Bank;
+use std::test::Fail;
+
+fn mistake(line: &[u8]) -> Option<Wrong<'_>> {
+    match parse_line(line) {
+        Ok(_) => None,
+        Err(wrong) => Some(wrong),
+    }
+}
+
+fn wrong(expected: Expected, found: &[u8]) -> Option<Wrong<'_>> {
+    Some(Wrong { expected, found })
+}
+
+#[test]
+fn good_lines(rt: HostRuntime) {
+    assert!(rt;
+        matches!(
+            parse_line(b"code am2960"),
+            Ok(Some(Act::Code(CodeName::Am2960)))
+        )
+    );
+    assert!(rt;
+        matches!(
+            parse_line(b"\tcode \t parity # \xff\x00"),
+            Ok(Some(Act::Code(CodeName::Parity)))
+        )
+    );
+    assert!(rt;
+        matches!(
+            parse_line(b"checks 65535"),
+            Ok(Some(Act::Checks { word: 65535 }))
+        )
+    );
+    assert!(rt;
+        matches!(
+            parse_line(b"judge 0o177777 0o77#"),
+            Ok(Some(Act::Judge {
+                data: 65535,
+                checks: 63
+            }))
+        )
+    );
+    assert!(rt; matches!(parse_line(b" \t # code am2960"), Ok(None)));
+}
+
+#[test]
+fn good_lines_of_stores(rt: HostRuntime) {
+    assert!(rt;
+        matches!(
+            parse_line(b"store flat 4294967295"),
+            Ok(Some(Act::Store(Make::Flat { cells: 4294967295 })))
+        )
+    );
+    assert!(rt;
+        matches!(
+            parse_line(b"store split 0"),
+            Ok(Some(Act::Store(Make::Split { cells: 0 })))
+        )
+    );
+    assert!(rt;
+        matches!(
+            parse_line(b"store pair 1 0o10"),
+            Ok(Some(Act::Store(Make::Pair {
+                first: 1,
+                second: 8
+            })))
+        )
+    );
+    assert!(rt;
+        matches!(
+            parse_line(b"store banks 1 2 3"),
+            Ok(Some(Act::Store(Make::Banks {
+                first: 1,
+                second: 2,
+                count: 3,
+                banks: BankList { used: 0, .. }
+            })))
+        )
+    );
+    assert!(rt;
+        matches!(
+            parse_line(b"strike 1500 512"),
+            Ok(Some(Act::Strike {
+                cell: 1500,
+                mask: 512
+            }))
+        )
+    );
+    assert!(rt; matches!(parse_line(b"cell 7"), Ok(Some(Act::Cell { cell: 7 }))));
+}
+
+#[test]
+fn good_lines_of_cards(rt: HostRuntime) {
+    assert!(rt;
+        matches!(
+            parse_line(b"place 8192 0 16"),
+            Ok(Some(Act::Place {
+                capacity: 8192,
+                start: 0,
+                control: 16
+            }))
+        )
+    );
+    assert!(rt;
+        matches!(
+            parse_line(b"dati 0o17772100"),
+            Ok(Some(Act::Dati { address: 4191296 }))
+        )
+    );
+    assert!(rt;
+        matches!(
+            parse_line(b"datip 4294967295"),
+            Ok(Some(Act::Datip {
+                address: 4294967295
+            }))
+        )
+    );
+    assert!(rt;
+        matches!(
+            parse_line(b"dato 0 65535"),
+            Ok(Some(Act::Dato {
+                address: 0,
+                word: 65535
+            }))
+        )
+    );
+    assert!(rt;
+        matches!(
+            parse_line(b"datob 9 255"),
+            Ok(Some(Act::Datob {
+                address: 9,
+                byte: 255
+            }))
+        )
+    );
+}
+
+// The banks of a map line, or none where it is no such line.
+fn banks(line: &[u8]) -> Option<BankList> {
+    match parse_line(line) {
+        Ok(Some(Act::Store(Make::Map { banks, .. }))) => Some(banks),
+        _ => None,
+    }
+}
+
+#[test]
+fn lists_of_banks(rt: HostRuntime) -> Result<(), Fail> {
+    let one = banks(b"store map 9 8 7 6").ok_or("no map")?;
+    assert_eq!(rt; one.used, 1);
+    let bank = Bank {
+        offset: 7,
+        length: 6,
+    };
+    assert_eq!(rt; one.banks[0], bank);
+    let none = Bank {
+        offset: 0,
+        length: 0,
+    };
+    assert_eq!(rt; one.banks[1], none);
+    let nine = banks(b"store map 9 9 1 1 2 1 3 1 4 1 5 1 6 1 7 1 8 1 9 1").ok_or("no map")?;
+    assert_eq!(rt; nine.used, 9);
+    assert_eq!(rt; nine.banks[8].offset, 9);
+    let ten = banks(b"store map 9 9 1 1 2 1 3 1 4 1 5 1 6 1 7 1 8 1 9 1 10 1").ok_or("no map")?;
+    assert_eq!(rt; ten.used, 9);
+    assert_eq!(rt; ten.banks[8].offset, 9);
+    Ok(())
+}
+
+#[test]
+fn mistakes_of_stores(rt: HostRuntime) {
+    let number = Expected::Number { most: 4294967295 };
+    assert_eq!(rt; mistake(b"store"), wrong(Expected::Make, b""));
+    assert_eq!(rt; mistake(b"store Flat 1"), wrong(Expected::Make, b"Flat"));
+    assert_eq!(rt;
+        mistake(b"store flat 4294967296"),
+        wrong(number, b"4294967296")
+    );
+    assert_eq!(rt; mistake(b"store flat 1 2"), wrong(Expected::End, b"2"));
+    assert_eq!(rt; mistake(b"store map 1 2 3 x y"), wrong(number, b"x"));
+    assert_eq!(rt; mistake(b"store map 1 2 3"), wrong(number, b""));
+    assert_eq!(rt;
+        mistake(b"store map 1 1 1 1 1 1 1 1 1 1 1 1 1 1 1 1 1 1 1 1 1 x"),
+        wrong(number, b"x")
+    );
+    assert_eq!(rt; mistake(b"strike 1"), wrong(number, b""));
+    assert_eq!(rt; mistake(b"cell 1 2"), wrong(Expected::End, b"2"));
+}
+
+#[test]
+fn mistakes(rt: HostRuntime) {
+    let word = Expected::Number { most: 65535 };
+    assert_eq!(rt; mistake(b"Code am2960"), wrong(Expected::Act, b"Code"));
+    assert_eq!(rt;
+        mistake(b"code am2961 x"),
+        wrong(Expected::CodeName, b"am2961")
+    );
+    assert_eq!(rt; mistake(b"code # am2960"), wrong(Expected::CodeName, b""));
+    assert_eq!(rt; mistake(b"checks 65536"), wrong(word, b"65536"));
+    assert_eq!(rt; mistake(b"judge"), wrong(word, b""));
+    assert_eq!(rt;
+        mistake(b"judge 1 64"),
+        wrong(Expected::Number { most: 63 }, b"64")
+    );
+    assert_eq!(rt; mistake(b"dato 0 65536"), wrong(word, b"65536"));
+    assert_eq!(rt;
+        mistake(b"datob 0 256"),
+        wrong(Expected::Number { most: 255 }, b"256")
+    );
+    assert_eq!(rt; mistake(b"place 8192 0 0 0"), wrong(Expected::End, b"0"));
+    assert_eq!(rt;
+        mistake(b"checks 1 \xc3\xa9 2"),
+        wrong(Expected::End, b"\xc3\xa9")
+    );
+}
+
+#[test]
+fn texts(rt: HostRuntime) -> Result<(), Fail> {
+    let heap = rt.alloc();
+    let found = Wrong {
+        expected: Expected::Number { most: 63 },
+        found: b"a\\\xff\x07~",
+    };
+    let text = wrong_text(heap, 18446744073709551615, &found)?;
+    assert!(rt;
+        text.as_str()
+            == "line 18446744073709551615: expected a number at most 63, found a\\x5c\\xff\\x07~"
+    );
+    let ended = wrong_text(
+        heap,
+        1,
+        &Wrong {
+            expected: Expected::Act,
+            found: b"",
+        },
+    )?;
+    assert!(rt;
+        ended.as_str()
+            == "line 1: expected code, store, place, checks, judge, dati, datip, dato, datob, strike or cell, found the end of the line"
+    );
+    Ok(())
+}
