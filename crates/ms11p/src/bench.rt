@@ -1,5 +1,5 @@
 // Running a job: its head, then its acts on the store that the head makes.
-use crate::lines::Lines;
+use crate::reading::Lines;
 use crate::stop::Stop;
 use codes::CodeName;
 use language::{Answer, BankList, Job, Make, Next, StoreJob, Wrong, wrong_text};

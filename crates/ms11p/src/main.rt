@@ -3,12 +3,12 @@
 
 mod bench;
 mod example;
-mod lines;
+mod reading;
 mod stop;
 
 use bench::Output;
 use example::DEFAULT_JOB;
-use lines::Lines;
+use reading::Lines;
 use std::io::{BufReader, BufWriter, Write};
 use std::process::ExitCode;
 use std::{env, fs};
