@@ -1,5 +1,5 @@
 -- The texts of answers, and of what a job comes to. Assumes nothing.
-use Rattle.std.specs.Prelude.{ℕ, ◌+◌, min, Bool, true, false, List, [], ◌++◌, codes, decimal}
+use Rattle.std.specs.Prelude.{ℕ, ◌+◌, min, Bool, true, false, List, ◌++◌, codes, decimal}
 use Rattle.codes.specs.declared.verdict.Verdict.{Verdict}
 use Rattle.codes.specs.declared.verdict.Verdict.TheVariants.{Sound, Mended, Bad}
 use Rattle.stores.specs.Faults.{cause_number}

@@ -1,5 +1,5 @@
 -- What the lines of a job on a card answer, and what they leave of it. Assumes nothing.
-use Rattle.std.specs.Prelude.{ℕ, Some, None, Ok, Err, Option, Result}
+use Rattle.std.specs.Prelude.{Some, None, Ok, Err, Option, Result}
 use Rattle.codes.specs.Cells.{Coding}
 use Rattle.stores.specs.Meaning.{write_answer, upset_by}
 use Rattle.rules.specs.Calls.{dati, datip, dato, datob, read, wrote, refused, Answer as CallAnswer}

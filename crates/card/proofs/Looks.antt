@@ -1,5 +1,5 @@
 -- Laws of a look at a cell. Assumes nothing.
-use Rattle.std.proofs.Common.{◌≡◌, ℕ, Ok, Err, Result, sym, refl, ap, arith}
+use Rattle.std.proofs.Common.{◌≡◌, ℕ, Ok, Err, Result, refl, arith}
 use Rattle.codes.specs.Cells.{Coding}
 use Rattle.stores.specs.declared.fault.Fault.{Fault}
 use Rattle.rules.specs.declared.look.Look.{Look}

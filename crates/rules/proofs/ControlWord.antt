@@ -6,7 +6,7 @@ use Rattle.std.proofs.lemmas.Nat.{mod_below}
 use Rattle.rules.specs.declared.control.Control.{Control}
 use Rattle.rules.specs.declared.registers.Registers.{Registers}
 use Rattle.rules.specs.Control.{kept_bits, high_address, diagnostic, on}
-use Rattle.rules.specs.Registers.{field, shown, control_written, with_control, ReadsAsWritten}
+use Rattle.rules.specs.Registers.{field, control_written, with_control, ReadsAsWritten}
 
 -- one bit of a number, by its weight
 pub bit_of : (n k : ℕ) → bit_and n (2 ^ k) ≡ n / 2 ^ k % 2 * 2 ^ k

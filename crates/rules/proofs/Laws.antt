@@ -1,5 +1,5 @@
 -- The transfers keep their laws: by the target of an address, and then by what the cell holds. Assumes nothing.
-use Rattle.std.proofs.Common.{◌≡◌, ℕ, Bool, true, false, cond, eqb, Ok, Err, Result, sym, refl, ap, ◌∙◌, ⊎_elim, arith}
+use Rattle.std.proofs.Common.{◌≡◌, ℕ, true, false, cond, eqb, Ok, Err, Result, sym, refl, ap, ◌∙◌, ⊎_elim, arith}
 use mathlib.Core.Path.{fun_ext}
 use Rattle.std.proofs.lemmas.Bool.{cases_eq, eq-eqb, ne_eqb}
 use Rattle.codes.specs.Cells.{Coding}
@@ -11,10 +11,10 @@ use Rattle.rules.specs.declared.placement.make.Target.{Target}
 use Rattle.rules.specs.declared.placement.make.Target.TheVariants.{Word, ControlWord}
 use Rattle.rules.specs.declared.refusal.Refusal.{Refusal}
 use Rattle.rules.specs.declared.refusal.Refusal.TheVariants.{PastBus, NotOwned, ControlByte, Store}
-use Rattle.rules.specs.Calls.{Call, dati, datip, dato, datob, Answer, wrote, refusal}
+use Rattle.rules.specs.Calls.{Call, dati, datip, dato, datob, wrote, refusal}
 use Rattle.rules.specs.State.{State}
 use Rattle.rules.specs.Targets.{Placed, target_of}
-use Rattle.rules.specs.Transfers.{Done, act, read_cell, read_from, write_cell, write_to, write_byte, byte_to, examined, treated, put, cell_for, cell_with_byte}
+use Rattle.rules.specs.Transfers.{Done, act, read_cell, read_from, write_cell, write_to, write_byte, byte_to, examined, treated, cell_for, cell_with_byte}
 use Rattle.rules.specs.Laws.{is_refused, is_word, goes_to, TransferLaws}
 
 -- a cell that is set to what it holds

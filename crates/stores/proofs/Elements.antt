@@ -1,6 +1,6 @@
 -- Cells in lent memory: one element set anew, its other bits and the other elements kept.
 -- Assumes nothing.
-use Rattle.std.proofs.Common.{◌≡◌, ℕ, ◌+◌, ◌*◌, ◌/◌, ◌%◌, ◌^◌, ◌<◌, ◌≤◌, min, List, map, length, get_or, set, Ok, Result, sym, refl, ap, ◌∙◌, ap₂, mod-eq_of_lt, div-add-mod', arith, lit≤, length-set, get_or-set_other, get_or-set_same}
+use Rattle.std.proofs.Common.{◌≡◌, ℕ, ◌+◌, ◌*◌, ◌/◌, ◌%◌, ◌^◌, ◌<◌, min, List, map, length, get_or, set, Ok, Result, sym, refl, ap, ◌∙◌, ap₂, mod-eq_of_lt, div-add-mod', arith, lit≤, length-set, get_or-set_other, get_or-set_same}
 use native.Mathlib.Nat.{div-eq_of_lt}
 use lib.Bits.{bit_xor, bit_and, bit_or, xor_zero_r, xor_block, and_mask, or_shifted}
 use lib.Seq.{map-set, set-get_or}
