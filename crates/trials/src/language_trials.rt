@@ -1,8 +1,7 @@
-// Lines, numbers and texts that a job meets.
+// Lines and texts that a job meets.
 use codes::{CodeName, Verdict};
 use language::{
-    Act, Answer, BankList, Expected, Job, Make, Next, StoreJob, Wrong, line_content, number,
-    parse_line, wrong_text,
+    Act, Answer, BankList, Expected, Job, Make, Next, StoreJob, Wrong, parse_line, wrong_text,
 };
 use maps::Bank;
 use std::test::Fail;
@@ -170,17 +169,6 @@ fn mistakes(rt: HostRuntime) {
 }
 
 #[test]
-fn limits(rt: HostRuntime) {
-    assert_eq!(rt; number(b"4294967295", u32::MAX), Some(4294967295));
-    assert_eq!(rt; number(b"4294967296", u32::MAX), None);
-    assert_eq!(rt; number(b"99999999999999999999", u32::MAX), None);
-    assert_eq!(rt; number(b"00000000000000000000007", 7), Some(7));
-    assert_eq!(rt; number(b"0o18", u32::MAX), None);
-    assert_eq!(rt; number(b"0o", u32::MAX), None);
-    assert_eq!(rt; number(b"+1", u32::MAX), None);
-}
-
-#[test]
 fn texts(rt: HostRuntime) -> Result<(), Fail> {
     let heap = rt.alloc();
     let found = Wrong {
@@ -285,15 +273,4 @@ fn a_job_on_a_store(rt: HostRuntime) {
         found: b"code",
     });
     assert_eq!(rt; job.run_line(b"code parity"), head_once);
-}
-
-#[test]
-fn ends_of_lines(rt: HostRuntime) {
-    for line in [b"a".as_slice(), b"a\n", b"a\r\n"] {
-        assert_eq!(rt; line_content(line), b"a".as_slice());
-    }
-    for line in [b"".as_slice(), b"\n", b"\r\n"] {
-        assert_eq!(rt; line_content(line), b"".as_slice());
-    }
-    assert_eq!(rt; line_content(b"a\n\r"), b"a\n\r".as_slice());
 }
