@@ -17,7 +17,7 @@ pub trait Code {
 
     ghost meaning: { Coding };
 
-    // K, R and S: no clause can name an associated constant, so this ties the constants to the meaning.
+    // K, R and S: this ties the constants to the meaning.
     fn figures() -> (u32, u32, u32)
         ensures { result ≡ figures_of meaning };
 
