@@ -1,8 +1,9 @@
 -- What the lines of a job answer, one after the other. Assumes nothing.
 use Rattle.std.specs.Prelude.{ℕ, List, Some, None, Ok, Err, Option, Result}
-use Rattle.codes.specs.Cells.{Coding, Judgement, word_bits, cell_of}
+use Rattle.codes.specs.Cells.{Coding, word_bits, cell_of}
 use Rattle.codes.specs.Names.{coding_of}
 use Rattle.codes.specs.declared.names.CodeName.{CodeName}
+use Rattle.codes.specs.declared.verdict.Judgement.{Judgement}
 use Rattle.stores.specs.Meaning.{Meaning, write_answer, upset_by}
 use Rattle.stores.specs.declared.fault.Fault.{Fault}
 use Rattle.card_language.specs.declared.act.Act.{Act}
@@ -47,7 +48,7 @@ abbrev pub checks_answer : Coding → ℕ → Answer
 checks_answer code word = answer.Checks (code.checks word)
 
 abbrev pub judgement_answer : Judgement → Answer
-judgement_answer j = answer.Judgement j.0 j.1 j.2
+judgement_answer j = answer.Judgement j.verdict j.word j.syndrome
 
 abbrev pub judged_answer : Coding → ℕ → ℕ → Answer
 judged_answer code stored checks = judgement_answer (code.judged (cell_of word_bits stored checks))

@@ -9,7 +9,7 @@ ghost use Rattle.bench.specs.Jobs.{said_of, line_given, line_left, checks_answer
 
 use answers::Answer;
 use card_language::{Act, Expected, Make, Wrong, parse_line};
-use codes::{CodeName, Verdict, pack};
+use codes::{CodeName, Judgement, pack};
 use lines::Words;
 
 // It means the code that its lines have chosen, if any.
@@ -100,10 +100,14 @@ pub(crate) fn judged_answer(code: CodeName, data: u16, checks: u8) -> Answer
     judgement_answer(code.judge(pack(data, checks)))
 }
 
-pub(crate) fn judgement_answer(judgement: (Verdict, u16, u8)) -> Answer
+pub(crate) fn judgement_answer(judgement: Judgement) -> Answer
     ensures { result ≡ judgement_answer judgement }
 {
-    let (verdict, word, syndrome) = judgement;
+    let Judgement {
+        verdict,
+        word,
+        syndrome,
+    } = judgement;
     Answer::Judgement {
         verdict,
         word,

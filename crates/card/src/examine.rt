@@ -27,12 +27,14 @@ impl<S: Store, C: Code> Module<S, C> {
         ensures leaves { state_of S.Store.meaning self.new ≡ on_module examined C.Code.meaning S.Store.meaning self.old word content }
         ensures stays { Stays S.Store.outside self.old self.new }
     {
-        let (verdict, mended, syndrome) = C::judge(content);
+        let judged = C::judge(content);
         let block = self.placement.block(word);
-        let treatment = self.registers.examine(word, verdict, block, syndrome);
+        let treatment = self
+            .registers
+            .examine(word, judged.verdict, block, judged.syndrome);
         self.tallies.count(word, treatment);
         let word = match treatment {
-            Verdict::Mended => mended,
+            Verdict::Mended => judged.word,
             _ => data_of(content),
         };
         Look {

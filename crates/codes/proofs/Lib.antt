@@ -1,2 +1,3 @@
 pub mod Encodings
 pub mod ExampleProofs
+pub mod Chains

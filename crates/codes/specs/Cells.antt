@@ -2,6 +2,7 @@
 -- Numbers have no width here: b and k are parameters, so that the laws hold of any kind of cell.
 -- Assumes nothing.
 use Rattle.std.specs.Prelude.{ℕ, ◌+◌, ◌*◌, ◌/◌, ◌%◌, ◌^◌, Some, None, Option, bit_xor}
+use Rattle.codes.specs.declared.verdict.Judgement.{Judgement}
 use Rattle.codes.specs.declared.verdict.Verdict.{Verdict}
 use Rattle.codes.specs.declared.verdict.Verdict.TheVariants.{Sound, Mended, Bad}
 
@@ -33,8 +34,8 @@ abbrev pub syndrome_of : ℕ → ℕ → (ℕ → ℕ) → ℕ → ℕ
 syndrome_of b k checks cell = bit_xor (checks (data_of b cell)) (checks_of b k cell)
 
 -- what judging answers: the verdict, the data and the syndrome
-abbrev pub Judgement : Type 0
-Judgement = Verdict × ℕ × ℕ
+abbrev pub judgement : Verdict → (word syndrome : ℕ) → Judgement
+judgement verdict word syndrome = record { verdict = verdict; word = word; syndrome = syndrome }
 
 -- the word, where the verdict is sound
 abbrev pub if_sound : Verdict → ℕ → Option ℕ

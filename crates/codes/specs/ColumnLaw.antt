@@ -4,14 +4,15 @@
 use Rattle.std.specs.Prelude.{◌≡◌, ℕ, ◌+◌, ◌%◌, ◌^◌, ◌<◌, ◌≤◌, List, length, ◌≢◌, bit_xor, count_ones, nat_eq, refl}
 use Rattle.std.proofs.Common.{sym, ap, ap₂, ◌∙◌, subst, inl, inr, arith, lit<, lit≤}
 use Rattle.std.specs.Int.Bits.{xor_assoc, xor_self, xor_zero_r, xor_zero_l}
-use Rattle.std.proofs.lemmas.Nat.{xor_lt}
+use Rattle.std.proofs.lemmas.Nat.{xor_lt, zero_from_ones}
 use Rattle.std.specs.List.{AllByRecursion}
 use Rattle.std.proofs.ByRecursion.{All-weaker}
 use Rattle.std.proofs.lemmas.Bool.{eq-eqb, ne_eqb, cases_eq}
 use Rattle.codes.specs.Cells.{most_checks, by_syndrome}
 use Rattle.codes.specs.Law.{Lawful}
+use Rattle.codes.specs.declared.verdict.Judgement.{Judgement}
 use Rattle.codes.specs.Columns.{folded_columns, named_bit, judged_by_columns, checks_of_zero, Different, ThreeOrFive, AnyColumnsLawful}
-use Rattle.codes.specs.Ones.{xor_swap, xor_apart, ones_zero, ones_none, ones_xor}
+use Rattle.codes.specs.Ones.{xor_swap, xor_apart, ones_zero, ones_xor}
 use Rattle.codes.specs.Mixes.{mix, folded_mix, mix_xor, mix_zero, mix_below, mix_ones, one_column, named_by_column, two_columns, names_nothing, named_below}
 use Rattle.codes.specs.Syndromes.{after_change, Changes, lawful_by_syndrome}
 use Rattle.codes.specs.Verdicts.{judges_by_tests, lost_bad, kept_mended}
@@ -55,11 +56,11 @@ module _ (k start : ℕ) (cs : List ℕ) (start_below : start < 2 ^ k) (small : 
   one_back word d e hd he one =
       elim (cases_eq (count_ones d) 0) [
         | inl z ↦
-            let d0 : d ≡ 0 = ones_none (length cs) d hd z in
+            let d0 : d ≡ 0 = zero_from_ones d z in
             let none : named_bit cs e ≡ 0 = names_nothing cs e (no_column e (omega arith)) in
             rw (d0, mix_zero cs, xor_zero_l e, none, xor_zero_r word, xor_zero_r word) refl
         | inr z ↦
-            let e0 : e ≡ 0 = ones_none k e he (omega arith) in
+            let e0 : e ≡ 0 = zero_from_ones e (omega arith) in
             let named : named_bit cs (mix cs d) ≡ d = named_by_column cs d hd (omega arith) different in
             rw (e0, xor_zero_r (mix cs d), named) (xor_assoc word d d ∙ ap (bit_xor word) (xor_self d) ∙ xor_zero_r word)
       ]
@@ -70,12 +71,12 @@ module _ (k start : ℕ) (cs : List ℕ) (start_below : start < 2 ^ k) (small : 
       let same : mix cs d ≡ e = xor_apart (mix cs d) e q in
       elim (cases_eq (count_ones d) 0) [
         | inl z ↦
-            let e0 : e ≡ 0 = sym same ∙ ap (mix cs) (ones_none (length cs) d hd z) ∙ mix_zero cs in
+            let e0 : e ≡ 0 = sym same ∙ ap (mix cs) (zero_from_ones d z) ∙ mix_zero cs in
             let none = ones_zero e e0 in
             omega arith
         | inr z ↦ elim (cases_eq (count_ones d) 1) [
           | inl one ↦ one_column (λ c. c ≢ e) cs d hd one (no_column e (omega arith)) same
-          | inr more ↦ two_columns cs d hd (omega arith) different (same ∙ ones_none k e he (omega arith))
+          | inr more ↦ two_columns cs d hd (omega arith) different (same ∙ zero_from_ones e (omega arith))
         ]
       ]
 
@@ -90,12 +91,12 @@ module _ (k start : ℕ) (cs : List ℕ) (start_below : start < 2 ^ k) (small : 
         let odd_s : count_ones s % 2 ≡ 1 = even_change d e hd he ∙ ap (λ (x : ℕ). x % 2) one in
         let is = judged_change word d e
         ∙ kept_mended (λ (x : ℕ). nat_eq (count_ones x % 2) 0) (λ (stored x : ℕ). bit_xor stored (named_bit cs x)) (bit_xor word d) s (odd_some s odd_s) (ne_eqb (count_ones s % 2) 0 (λ z. omega arith)) in
-        (ap (λ v. v.0) is, ap (λ v. v.1) is ∙ one_back word d e hd he one);
+        (ap (λ (j : Judgement). j.verdict) is, ap (λ (j : Judgement). j.word) is ∙ one_back word d e hd he one);
     found = λ word d e h hd he some few.
         let s : ℕ = bit_xor (mix cs d) e in
         let two : count_ones e + count_ones d ≡ 2 = omega arith in
         let even_s : count_ones s % 2 ≡ 0 = even_change d e hd he ∙ ap (λ (x : ℕ). x % 2) two in
-        ap (λ v. v.0) (judged_change word d e)
+        ap (λ (j : Judgement). j.verdict) (judged_change word d e)
         ∙ lost_bad (λ (x : ℕ). nat_eq (count_ones x % 2) 0) (λ (stored x : ℕ). bit_xor stored (named_bit cs x)) (bit_xor word d) s (two_shown d e hd he two) (eq-eqb (count_ones s % 2) 0 even_s);
   }
 

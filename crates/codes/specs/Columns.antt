@@ -2,8 +2,9 @@
 -- Assumes nothing.
 use Rattle.std.specs.Prelude.{◌≡◌, ℕ, ◌*◌, ◌/◌, ◌%◌, ◌^◌, ◌<◌, cond, ◌⊎◌, List, [], ◌∷◌, length, ◌==◌, ◌≢◌, bit_xor, count_ones}
 use Rattle.std.specs.List.{AllByRecursion}
-use Rattle.codes.specs.Cells.{Judgement, Coding, by_syndrome, word_bits, most_checks}
+use Rattle.codes.specs.Cells.{judgement, Coding, by_syndrome, word_bits, most_checks}
 use Rattle.codes.specs.Law.{Lawful}
+use Rattle.codes.specs.declared.verdict.Judgement.{Judgement}
 use Rattle.codes.specs.declared.verdict.Verdict.TheVariants.{Sound, Mended, Bad}
 
 -- the columns of data bits 0 to 15 of the Am2960; check bits 0 to 5 are CX, C0, C1, C2, C4 and C8
@@ -27,7 +28,7 @@ named_bit (c ∷ cs) s = cond (c == s) 1 (2 * named_bit cs s)
 -- syndrome 0 is sound; an even number of ones is bad; an odd one is mended, with the bit that it names inverted
 abbrev pub judged_by_columns : List ℕ → ℕ → ℕ → Judgement
 judged_by_columns cs stored s =
-    cond (s == 0) (Sound, stored, s) (cond (count_ones s % 2 == 0) (Bad, stored, s) (Mended, bit_xor stored (named_bit cs s), s))
+    cond (s == 0) (judgement Sound stored s) (cond (count_ones s % 2 == 0) (judgement Bad stored s) (judgement Mended (bit_xor stored (named_bit cs s)) s))
 
 -- the Am2960's rules with any columns in the place of its own
 abbrev pub column_code : List ℕ → Coding

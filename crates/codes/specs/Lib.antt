@@ -4,6 +4,7 @@ pub mod Columns
 pub mod Parity
 pub mod Names
 pub mod Examples
+pub mod Texts
 pub mod ColumnLaw
 pub mod Ones
 pub mod Mixes
@@ -11,5 +12,4 @@ pub mod Syndromes
 pub mod Fields
 pub mod Verdicts
 pub mod Tables
-pub mod Loops
 pub mod ParityLaw

@@ -3,12 +3,12 @@
 use Rattle.std.specs.Prelude.{◌≡◌, ℕ, suc, ◌*◌, ◌/◌, ◌%◌, ◌^◌, ◌<◌, Bool, true, false, cond, ◌⊎◌, List, [], ◌∷◌, length, ◌==◌, ◌≢◌, bit_xor, refl}
 use Rattle.std.proofs.Common.{sym, ap, ap₂, ◌∙◌, inl, inr, pow-suc, arith, pow_pos}
 use Rattle.std.specs.Int.Bits.{xor_assoc, xor_self, xor_zero_r, xor_zero_l}
-use Rattle.std.proofs.lemmas.Nat.{xor_mod, xor_shr, xor_lt}
+use Rattle.std.proofs.lemmas.Nat.{xor_mod, xor_shr, xor_lt, zero_from_ones}
 use Rattle.std.specs.Int.Count.{ones, ones_step}
 use Rattle.std.specs.List.{AllByRecursion}
 use Rattle.std.proofs.lemmas.Bool.{ne_eqb, eq-eqb}
 use Rattle.codes.specs.Columns.{folded_columns, named_bit, Different}
-use Rattle.codes.specs.Ones.{bit_cases, xor_swap, xor_apart, ones_zero, ones_none, ones_xor}
+use Rattle.codes.specs.Ones.{bit_cases, xor_swap, xor_apart, ones_zero, ones_xor}
 
 -- the column where the lowest bit of n is set
 abbrev pick : ℕ → ℕ → ℕ
@@ -89,7 +89,7 @@ one_column P (c ∷ cs) n h one all =
     elim (bit_cases n) [
       | inl z ↦ rw (z, xor_zero_l (mix cs (n / 2))) (one_column P cs (n / 2) (half_below (length cs) n h) (omega arith) all.1)
       | inr z ↦
-          let rest : n / 2 ≡ 0 = ones_none (length cs) (n / 2) (half_below (length cs) n h) (omega arith) in
+          let rest : n / 2 ≡ 0 = zero_from_ones (n / 2) (omega arith) in
           rw (z, rest, mix_zero cs, xor_zero_r c) all.0
     ]
 
@@ -107,7 +107,7 @@ named_by_column (c ∷ cs) n h one apart =
           let again = named_by_column cs (n / 2) (half_below (length cs) n h) rest apart.1 in
           rw (z, xor_zero_l (mix cs (n / 2)), no, again) (omega arith)
       | inr z ↦
-          let rest : n / 2 ≡ 0 = ones_none (length cs) (n / 2) (half_below (length cs) n h) (omega arith) in
+          let rest : n / 2 ≡ 0 = zero_from_ones (n / 2) (omega arith) in
           let yes = eq-eqb c c refl in
           rw (z, rest, mix_zero cs, xor_zero_r c, yes) (omega arith)
     ]

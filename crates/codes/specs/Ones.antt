@@ -26,15 +26,6 @@ pub ones_zero : (n : ℕ) → n ≡ 0 → ones n ≡ 0
 unfolding ones
 ones_zero n e = ap ones e
 
--- a number without ones is 0
-pub ones_none : (k n : ℕ) → n < 2 ^ k → ones n ≡ 0 → n ≡ 0
-ones_none zero n h e = omega arith
-ones_none (suc k) n h e =
-    let step = ones_step n in
-    let double = pow-suc 2 k in
-    let rest = ones_none k (n / 2) (omega arith) (omega arith) in
-    omega arith
-
 -- the lowest bit of an exclusive or, by those of its two parts
 low_bit : (a b x y z : ℕ) → a % 2 ≡ x → b % 2 ≡ y → bit_xor x y ≡ z → bit_xor a b % 2 ≡ z
 low_bit a b x y z ea eb ez = xor_mod a b 1 ∙ ap₂ bit_xor ea eb ∙ ez

@@ -3,12 +3,12 @@
 use Rattle.std.specs.Prelude.{◌≡◌, ℕ, ◌+◌, ◌/◌, ◌%◌, ◌^◌, ◌<◌, true, ◌≢◌, bit_xor, count_ones, refl}
 use Rattle.std.proofs.Common.{sym, ap, ◌∙◌, inl, inr, mod-lt, arith, lit<, lit≤}
 use Rattle.std.specs.Int.Bits.{xor_self, xor_zero_r}
-use Rattle.std.proofs.lemmas.Nat.{xor_mod, xor_shr}
+use Rattle.std.proofs.lemmas.Nat.{xor_mod, xor_shr, zero_from_ones}
 use Rattle.std.proofs.lemmas.Bool.{cases_eq}
 use Rattle.codes.specs.Cells.{word_bits, most_checks}
 use Rattle.codes.specs.Law.{Lawful}
 use Rattle.codes.specs.Parity.{parity_checks, judged_by_parity, byte_parity}
-use Rattle.codes.specs.Ones.{bit_cases, xor_cancel, xor_apart, ones_zero, ones_none, ones_xor}
+use Rattle.codes.specs.Ones.{xor_cancel, xor_apart, ones_zero, ones_xor}
 use Rattle.codes.specs.Fields.{ones_parts}
 use Rattle.codes.specs.Syndromes.{Changes, lawful_by_syndrome}
 use Rattle.codes.specs.Verdicts.{judges_by_tests, lost_bad}
@@ -28,11 +28,7 @@ high_byte w d hw hd =
 
 -- equal parity bits come of equally odd numbers
 parity_tells : (m n : ℕ) → (m + 1) % 2 ≡ (n + 1) % 2 → m % 2 ≡ n % 2
-parity_tells m n e =
-    elim (bit_cases m) [
-      | inl p ↦ elim (bit_cases n) [ inl q ↦ omega arith | inr q ↦ omega arith ]
-      | inr p ↦ elim (bit_cases n) [ inl q ↦ omega arith | inr q ↦ omega arith ]
-    ]
+parity_tells m n e = omega arith
 
 -- with one data bit changed, one byte's parity bit differs
 data_shown : (w d : ℕ) → w < 2 ^ 16 → d < 2 ^ 16 → count_ones d ≡ 1 → parity_checks (bit_xor w d) ≢ parity_checks w
@@ -52,10 +48,10 @@ one_shown w d e hw hd he one q =
     let same = xor_apart (parity_checks (bit_xor w d)) (bit_xor (parity_checks w) e) q in
     elim (cases_eq (count_ones e) 0) [
       | inl z ↦
-          let e0 : e ≡ 0 = ones_none 2 e he z in
+          let e0 : e ≡ 0 = zero_from_ones e z in
           data_shown w d hw hd (omega arith) (same ∙ ap (bit_xor (parity_checks w)) e0 ∙ xor_zero_r (parity_checks w))
       | inr z ↦
-          let d0 : d ≡ 0 = ones_none 16 d hd (omega arith) in
+          let d0 : d ≡ 0 = zero_from_ones d (omega arith) in
           let back : bit_xor (parity_checks w) e ≡ parity_checks w = sym same ∙ ap parity_checks (ap (bit_xor w) d0 ∙ xor_zero_r w) in
           let e0 : e ≡ 0 = sym (xor_cancel (parity_checks w) e) ∙ ap (bit_xor (parity_checks w)) back ∙ xor_self (parity_checks w) in
           let none = ones_zero e e0 in

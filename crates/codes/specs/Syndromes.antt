@@ -3,18 +3,19 @@
 use Rattle.std.specs.Prelude.{◌≡◌, ℕ, ◌+◌, ◌/◌, ◌%◌, ◌^◌, ◌<◌, ◌≤◌, bit_xor, count_ones}
 use Rattle.std.proofs.Common.{sym, ap, ap₂, ◌∙◌, arith}
 use Rattle.std.specs.Int.Bits.{xor_self}
-use Rattle.codes.specs.Cells.{Judgement, data_of, cell_of, syndrome_of, by_syndrome}
+use Rattle.codes.specs.Cells.{judgement, data_of, cell_of, syndrome_of, by_syndrome}
 use Rattle.codes.specs.Law.{Lawful}
+use Rattle.codes.specs.declared.verdict.Judgement.{Judgement}
 use Rattle.codes.specs.declared.verdict.Verdict.TheVariants.{Sound, Mended, Bad}
 use Rattle.codes.specs.Fields.{data_below, data_of_cell, checks_of_cell, data_of_places, checks_of_places, changed_data, changed_checks, ones_parts, mask_checks_below}
 
 -- what such a code says of a word of b bits and a syndrome
 pub record Judges (b : ℕ) (judge : ℕ → ℕ → Judgement) : Type 0 where
-  pub clear : (stored : ℕ) → judge stored 0 ≡ (Sound, stored, 0)
-  pub shown : (stored s : ℕ) → (judge stored s).2 ≡ s
-  pub sound_clear : (stored s : ℕ) → (judge stored s).0 ≡ Sound → s ≡ 0
-  pub bad_stored : (stored s : ℕ) → (judge stored s).0 ≡ Bad → (judge stored s).1 ≡ stored
-  pub fits : (stored s : ℕ) → stored < 2 ^ b → (judge stored s).1 < 2 ^ b
+  pub clear : (stored : ℕ) → judge stored 0 ≡ judgement Sound stored 0
+  pub shown : (stored s : ℕ) → (judge stored s).syndrome ≡ s
+  pub sound_clear : (stored s : ℕ) → (judge stored s).verdict ≡ Sound → s ≡ 0
+  pub bad_stored : (stored s : ℕ) → (judge stored s).verdict ≡ Bad → (judge stored s).word ≡ stored
+  pub fits : (stored s : ℕ) → stored < 2 ^ b → (judge stored s).word < 2 ^ b
 
 module _ (b k : ℕ) (checks : ℕ → ℕ) (judge : ℕ → ℕ → Judgement) (fit : (word : ℕ) → word < 2 ^ b → checks word < 2 ^ k) where
   -- the judgement of a word whose data a mask changes by d and whose checks by e
@@ -28,10 +29,10 @@ module _ (b k : ℕ) (checks : ℕ → ℕ) (judge : ℕ → ℕ → Judgement) 
     pub alert : 1 ≤ s
     pub mended
         : (word d e : ℕ) → word < 2 ^ b → d < 2 ^ b → e < 2 ^ k → 1 ≤ count_ones e + count_ones d → count_ones e + count_ones d ≤ r
-        → ((after_change word d e).0 ≡ Mended) × ((after_change word d e).1 ≡ word)
+        → ((after_change word d e).verdict ≡ Mended) × ((after_change word d e).word ≡ word)
     pub found
         : (word d e : ℕ) → word < 2 ^ b → d < 2 ^ b → e < 2 ^ k → r + 1 ≤ count_ones e + count_ones d → count_ones e + count_ones d ≤ s
-        → (after_change word d e).0 ≡ Bad
+        → (after_change word d e).verdict ≡ Bad
 
 module _ (b k most r s : ℕ) (checks : ℕ → ℕ) (judge : ℕ → ℕ → Judgement) (fit : (word : ℕ) → word < 2 ^ b → checks word < 2 ^ k) (says : Judges b judge) where
   judged_changed
@@ -42,7 +43,7 @@ module _ (b k most r s : ℕ) (checks : ℕ → ℕ) (judge : ℕ → ℕ → Ju
       ap₂ (λ (d e : ℕ). judge d (bit_xor (checks d) e)) (changed_data b word (checks word) mask h)
       (changed_checks b k word (checks word) mask h (fit word h) l)
 
-  judged_encoding : (word : ℕ) → word < 2 ^ b → (by_syndrome b k r s checks judge).judged (cell_of b word (checks word)) ≡ (Sound, word, 0)
+  judged_encoding : (word : ℕ) → word < 2 ^ b → (by_syndrome b k r s checks judge).judged (cell_of b word (checks word)) ≡ judgement Sound word 0
   judged_encoding word h =
       ap₂ (λ (d e : ℕ). judge d (bit_xor (checks d) e)) (data_of_cell b word (checks word) h) (checks_of_cell b k word (checks word) h (fit word h))
       ∙ ap (judge word) (xor_self (checks word)) ∙ says.clear word
@@ -61,16 +62,16 @@ module _ (b k most r s : ℕ) (checks : ℕ → ℕ) (judge : ℕ → ℕ → Ju
         says.shown (data_of b cell) (syndrome_of b k checks cell) ∙ says.sound_clear (data_of b cell) (syndrome_of b k checks cell) e;
     clear_sound = λ cell e.
         let s0 = sym (says.shown (data_of b cell) (syndrome_of b k checks cell)) ∙ e in
-        ap (λ v. v.0) (ap (judge (data_of b cell)) s0 ∙ says.clear (data_of b cell));
+        ap (λ (j : Judgement). j.verdict) (ap (judge (data_of b cell)) s0 ∙ says.clear (data_of b cell));
     bad_stored = λ cell. says.bad_stored (data_of b cell) (syndrome_of b k checks cell);
     intact = judged_encoding;
     mended = λ word mask h l some few.
         let j = judged_changed word mask h l in
         let parts = ones_parts b mask in
         let m = changes.mended word (mask % 2 ^ b) (mask / 2 ^ b) h (data_below b mask) (mask_checks_below b k mask l) (omega arith) (omega arith) in
-        (ap (λ v. v.0) j ∙ m.0, ap (λ v. v.1) j ∙ m.1);
+        (ap (λ (j : Judgement). j.verdict) j ∙ m.0, ap (λ (j : Judgement). j.word) j ∙ m.1);
     found = λ word mask h l some few.
         let parts = ones_parts b mask in
-        ap (λ v. v.0) (judged_changed word mask h l)
+        ap (λ (j : Judgement). j.verdict) (judged_changed word mask h l)
         ∙ changes.found word (mask % 2 ^ b) (mask / 2 ^ b) h (data_below b mask) (mask_checks_below b k mask l) (omega arith) (omega arith);
   }

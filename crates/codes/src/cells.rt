@@ -1,11 +1,10 @@
 // Cells: data in bits 0 to 15, checks from bit 16 up; packed and unpacked, and encoded and decoded under any code.
 ghost use Rattle.std.specs.Prelude.{◌≡◌, ℕ, ◌≤◌, MatchOption};
-ghost use Rattle.codes.specs.Cells.{word_bits, cell_of, data_of, checks_of, encoding, if_sound};
+ghost use Rattle.codes.specs.Cells.{word_bits, cell_of, data_of, checks_of, encoding};
 ghost use Rattle.codes.specs.Law.{Encodes, SoundIsEncoding, TellsCellsApart};
 
 use crate::bits::{join_bits, low_bits};
 use crate::code::Code;
-use crate::verdict::Verdict;
 
 pub fn pack(word: u16, checks: u8) -> u32
     ensures { result ≡ cell_of word_bits word checks }
@@ -37,8 +36,7 @@ pub fn encode<C: Code>(word: u16) -> u32
 pub fn stored_checks<C: Code>(cell: u32) -> u8
     ensures { result ≡ checks_of word_bits C.Code.meaning.width cell }
 {
-    let (width, _, _) = C::figures();
-    checks_of(cell, width)
+    checks_of(cell, C::K)
 }
 
 // The word whose encoding the cell's places are, by the verdict; None where they are no word's encoding.
@@ -47,14 +45,5 @@ pub fn encoded_word<C: Code>(cell: u32) -> Option<u16>
     ensures sound { SoundIsEncoding word_bits C.Code.meaning }
     ensures apart { TellsCellsApart C.Code.meaning }
 {
-    sound_word(C::judge(cell))
-}
-
-fn sound_word(judgement: (Verdict, u16, u8)) -> Option<u16>
-    ensures { result ≡ if_sound judgement.0 judgement.1 }
-{
-    match judgement.0 {
-        Verdict::Sound => Some(judgement.1),
-        _ => None,
-    }
+    C::judge(cell).sound()
 }

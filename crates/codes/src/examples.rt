@@ -1,17 +1,18 @@
 // Worked examples of the two codes.
 ghost use Rattle.std.specs.Prelude.{◌≡◌};
 ghost use Rattle.std.specs.List.{AllByRecursion};
+ghost use Rattle.codes.specs.Cells.{judgement};
 ghost use Rattle.codes.specs.Examples.{Holds, worked_examples};
 
 use crate::names::CodeName;
-use crate::verdict::Verdict;
+use crate::verdict::{Judgement, Verdict};
 
 #[derive(Clone, Copy)]
 pub enum Example {
     // A word and its checks.
     Checks(CodeName, u16, u8),
-    // The data and checks of a cell, and its judgement: verdict, word and syndrome.
-    Judged(CodeName, u16, u8, Verdict, u16, u8),
+    // The data and checks of a cell, and its judgement.
+    Judged(CodeName, u16, u8, Judgement),
 }
 
 // The worked examples, all of which hold.
@@ -32,11 +33,31 @@ fn table() -> [Example; 12]
         Example::Checks(CodeName::Am2960, 512, 41),
         Example::Checks(CodeName::Parity, 0, 3),
         Example::Checks(CodeName::Parity, 1, 2),
-        Example::Judged(CodeName::Am2960, 512, 12, Verdict::Mended, 0, 37),
-        Example::Judged(CodeName::Am2960, 0, 13, Verdict::Mended, 0, 1),
-        Example::Judged(CodeName::Am2960, 3, 12, Verdict::Bad, 3, 5),
-        Example::Judged(CodeName::Am2960, 0, 0, Verdict::Bad, 0, 12),
-        Example::Judged(CodeName::Am2960, 3, 14, Verdict::Mended, 3, 7),
-        Example::Judged(CodeName::Parity, 1, 3, Verdict::Bad, 1, 1),
+        Example::Judged(CodeName::Am2960, 512, 12, mended(0, 37)),
+        Example::Judged(CodeName::Am2960, 0, 13, mended(0, 1)),
+        Example::Judged(CodeName::Am2960, 3, 12, bad(3, 5)),
+        Example::Judged(CodeName::Am2960, 0, 0, bad(0, 12)),
+        Example::Judged(CodeName::Am2960, 3, 14, mended(3, 7)),
+        Example::Judged(CodeName::Parity, 1, 3, bad(1, 1)),
     ]
+}
+
+fn mended(word: u16, syndrome: u8) -> Judgement
+    ensures { result ≡ judgement Verdict.Mended word syndrome }
+{
+    Judgement {
+        verdict: Verdict::Mended,
+        word,
+        syndrome,
+    }
+}
+
+fn bad(word: u16, syndrome: u8) -> Judgement
+    ensures { result ≡ judgement Verdict.Bad word syndrome }
+{
+    Judgement {
+        verdict: Verdict::Bad,
+        word,
+        syndrome,
+    }
 }

@@ -19,4 +19,4 @@ pub use columns::columns_fit;
 pub use examples::{Example, worked_examples};
 pub use names::CodeName;
 pub use parity::ByteParity;
-pub use verdict::Verdict;
+pub use verdict::{Judgement, Verdict};

@@ -5,7 +5,7 @@ ghost use Rattle.codes.specs.Names.{coding_of};
 use crate::am2960::Am2960;
 use crate::code::Code;
 use crate::parity::ByteParity;
-use crate::verdict::Verdict;
+use crate::verdict::Judgement;
 
 #[derive(Clone, Copy, PartialEq, Eq, Debug)]
 pub enum CodeName {
@@ -23,7 +23,7 @@ impl CodeName {
         }
     }
 
-    pub fn judge(self, cell: u32) -> (Verdict, u16, u8)
+    pub fn judge(self, cell: u32) -> Judgement
         ensures { result ≡ (coding_of self).judged cell }
     {
         match self {

@@ -1,12 +1,12 @@
 // Byte parity: a check bit for each byte, nothing mended, one struck place found.
-ghost use Rattle.std.specs.Prelude.{◌≡◌};
+ghost use Rattle.std.specs.Prelude.{◌≡◌, refl};
 ghost use Rattle.codes.specs.Parity.{byte_parity, odd_parity};
 ghost use Rattle.codes.specs.ParityLaw.{parity_lawful};
 
 use crate::bits::{join_bits, low_bits};
 use crate::cells::{checks_of, data_of};
 use crate::code::Code;
-use crate::verdict::Verdict;
+use crate::verdict::{Judgement, Verdict};
 
 #[derive(Clone, Copy)]
 pub struct ByteParity;
@@ -14,30 +14,39 @@ pub struct ByteParity;
 impl Code for ByteParity {
     const K: u32 = 2;
 
+    ghost K = { byte_parity.width };
+
     const R: u32 = 0;
+
+    ghost R = { byte_parity.mends };
 
     const S: u32 = 1;
 
+    ghost S = { byte_parity.finds };
+
     ghost meaning = { byte_parity };
 
-    ghost lawful = { parity_lawful };
+    ghost figures = { refl };
 
-    fn figures() -> (u32, u32, u32) {
-        (Self::K, Self::R, Self::S)
-    }
+    ghost lawful = { parity_lawful };
 
     fn checks(word: u16) -> u8 {
         let word = u32::from(word);
         join_bits(parity_of(word >> 8), parity_of(low_bits(word, 8)), 1) as u8
     }
 
-    fn judge(cell: u32) -> (Verdict, u16, u8) {
+    fn judge(cell: u32) -> Judgement {
         let stored = data_of(cell);
         let syndrome = Self::checks(stored) ^ checks_of(cell, Self::K);
-        if syndrome == 0 {
-            (Verdict::Sound, stored, syndrome)
+        let verdict = if syndrome == 0 {
+            Verdict::Sound
         } else {
-            (Verdict::Bad, stored, syndrome)
+            Verdict::Bad
+        };
+        Judgement {
+            verdict,
+            word: stored,
+            syndrome,
         }
     }
 }

@@ -19,34 +19,30 @@ enum Seen {
 // Whether judging answers otherwise than the mark says, at the cell that holds the word and shows the syndrome.
 fn differs(mark: Mark, word: u16, syndrome: u8) -> bool {
     let code = CodeName::Am2960;
-    let (verdict, judged, shown) = code.judge(pack(word, code.checks(word) ^ syndrome));
-    match meant_by(mark, word, syndrome) {
-        Some((v, w, s)) => v != verdict || w != judged || s != shown,
-        None => false,
-    }
+    let judged = code.judge(pack(word, code.checks(word) ^ syndrome));
+    meant_by(mark, word, syndrome).is_some_and(|meant| meant != judged)
 }
 
 fn compare(mark: Mark, syndrome: u8) -> Seen {
     if let Mark::More = mark {
         return Seen::NotCompared;
     }
-    for word in 0..=0xffffu16 {
-        if differs(mark, word, syndrome) {
-            return Seen::Differs;
-        }
+    if (0..=0xffffu16).any(|word| differs(mark, word, syndrome)) {
+        Seen::Differs
+    } else {
+        Seen::Agrees
     }
-    Seen::Agrees
 }
 
 // How many words come back from their encoding.
-fn words_back<C: Code>() -> u32 {
-    let mut back = 0u32;
-    for word in 0..=0xffffu16 {
-        if encoded_word::<C>(encode::<C>(word)) == Some(word) {
-            back = back.saturating_add(1);
-        }
-    }
-    back
+fn words_back<C: Code>() -> usize {
+    (0..=0xffffu16)
+        .filter(|word| encoded_word::<C>(encode::<C>(*word)) == Some(*word))
+        .count()
+}
+
+fn count(all: &[Seen], seen: Seen) -> usize {
+    all.iter().filter(|one| **one == seen).count()
 }
 
 fn main(rt: HostRuntime) -> anyhow::Result<()> {
@@ -54,19 +50,17 @@ fn main(rt: HostRuntime) -> anyhow::Result<()> {
 }
 
 fn run(rt: &HostRuntime) -> anyhow::Result<()> {
-    let mut agree = 0u32;
-    let mut differ = 0u32;
-    let mut left_out = 0u32;
-    for syndrome in 0..64u8 {
-        match compare(printed_at(syndrome), syndrome) {
-            Seen::Agrees => agree = agree.saturating_add(1),
-            Seen::NotCompared => left_out = left_out.saturating_add(1),
-            Seen::Differs => {
-                differ = differ.saturating_add(1);
-                println!(rt; "syndrome {syndrome}: the code does not answer as the table says")?;
-            }
+    let seen = (0..64u8)
+        .map(|syndrome| compare(printed_at(syndrome), syndrome))
+        .collect::<Vec<Seen>>(rt.alloc())?;
+    for (syndrome, one) in seen.iter().enumerate() {
+        if *one == Seen::Differs {
+            println!(rt; "syndrome {syndrome}: the code does not answer as the table says")?;
         }
     }
+    let agree = count(&seen, Seen::Agrees);
+    let differ = count(&seen, Seen::Differs);
+    let left_out = count(&seen, Seen::NotCompared);
     println!(rt; "decode table of the Am2960, each syndrome at all 65536 words")?;
     println!(rt;
         "{agree} agree, {differ} differ, {left_out} are marked for more than two errors and not compared"
@@ -101,12 +95,9 @@ mod tests {
     fn ten_syndromes_name_nothing(rt: HostRuntime) {
         for syndrome in [7, 13, 31, 47, 50, 55, 56, 59, 61, 62] {
             assert!(rt; matches!(printed_at(syndrome), Mark::More));
-            let (verdict, judged, _) = CodeName::Am2960.judge(pack(
-                3,
-                CodeName::Am2960.checks(3) ^ syndrome,
-            ));
-            assert_eq!(rt; verdict, Verdict::Mended);
-            assert_eq!(rt; judged, 3);
+            let judged = CodeName::Am2960.judge(pack(3, CodeName::Am2960.checks(3) ^ syndrome));
+            assert_eq!(rt; judged.verdict, Verdict::Mended);
+            assert_eq!(rt; judged.word, 3);
         }
     }
 }

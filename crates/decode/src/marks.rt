@@ -2,7 +2,7 @@
 ghost use Rattle.std.specs.Prelude.{◌≡◌, ◌+◌, ◌*◌, ◌/◌, ◌%◌};
 ghost use Rattle.decode.specs.Marks.{meaning_of};
 
-use codes::Verdict;
+use codes::{Judgement, Verdict};
 
 // What the table prints for a syndrome.
 #[derive(Clone, Copy)]
@@ -58,14 +58,19 @@ fn mark_of(first: u8, second: u8) -> Mark {
 }
 
 // What a mark says of judging a cell that holds the word and shows the syndrome; nothing of more than two errors.
-pub(crate) fn meant_by(mark: Mark, word: u16, syndrome: u8) -> Option<(Verdict, u16, u8)>
+pub(crate) fn meant_by(mark: Mark, word: u16, syndrome: u8) -> Option<Judgement>
     ensures { result ≡ meaning_of mark word syndrome }
 {
-    match mark {
-        Mark::Clear => Some((Verdict::Sound, word, syndrome)),
-        Mark::Check => Some((Verdict::Mended, word, syndrome)),
-        Mark::Data(bit) => Some((Verdict::Mended, word ^ bit, syndrome)),
-        Mark::Two => Some((Verdict::Bad, word, syndrome)),
-        Mark::More => None,
-    }
+    let (verdict, word) = match mark {
+        Mark::Clear => (Verdict::Sound, word),
+        Mark::Check => (Verdict::Mended, word),
+        Mark::Data(bit) => (Verdict::Mended, word ^ bit),
+        Mark::Two => (Verdict::Bad, word),
+        Mark::More => return None,
+    };
+    Some(Judgement {
+        verdict,
+        word,
+        syndrome,
+    })
 }

@@ -1,8 +1,9 @@
 -- What the lines of a job answer, one after the other. Assumes nothing.
 use Rattle.std.specs.Prelude.{ℕ, List, Some, None, Ok, Err, Option, Result}
-use Rattle.codes.specs.Cells.{Judgement, word_bits, cell_of}
+use Rattle.codes.specs.Cells.{word_bits, cell_of}
 use Rattle.codes.specs.Names.{coding_of}
 use Rattle.codes.specs.declared.names.CodeName.{CodeName}
+use Rattle.codes.specs.declared.verdict.Judgement.{Judgement}
 use Rattle.stores.specs.Meaning.{Meaning, write_answer, upset_by}
 use Rattle.stores.specs.declared.fault.Fault.{Fault}
 use Rattle.language.specs.declared.act.Act.{Act}
@@ -43,7 +44,7 @@ abbrev pub checks_answer : CodeName → ℕ → Answer
 checks_answer name word = answer.Checks ((coding_of name).checks word)
 
 abbrev pub judgement_answer : Judgement → Answer
-judgement_answer j = answer.Judgement j.0 j.1 j.2
+judgement_answer j = answer.Judgement j.verdict j.word j.syndrome
 
 abbrev pub judged_answer : CodeName → ℕ → ℕ → Answer
 judged_answer name stored checks = judgement_answer ((coding_of name).judged (cell_of word_bits stored checks))

@@ -11,7 +11,7 @@ use crate::answer::Answer;
 use crate::make::Make;
 use crate::parse::parse_line;
 use crate::wrong::{Expected, Wrong};
-use codes::{CodeName, pack};
+use codes::{CodeName, Judgement, pack};
 use lines::Words;
 
 // It means the code that its lines have chosen, if any.
@@ -96,7 +96,11 @@ pub(crate) fn checks_answer(code: CodeName, word: u16) -> Answer
 pub(crate) fn judged_answer(code: CodeName, data: u16, checks: u8) -> Answer
     ensures { result ≡ judged_answer code «data» checks }
 {
-    let (verdict, word, syndrome) = code.judge(pack(data, checks));
+    let Judgement {
+        verdict,
+        word,
+        syndrome,
+    } = code.judge(pack(data, checks));
     Answer::Judgement {
         verdict,
         word,

@@ -39,19 +39,19 @@ high_byte address = address % 2 == 1
 module _ (code : Coding) (p : Placed) where
   -- The treatment of the cell of a word by its content, in that state.
   abbrev pub treated : State → (word content : ℕ) → Verdict
-  treated s word content = treatment (bits_of s) (guarded (bits_of s) word) (code.judged content).0
+  treated s word content = treatment (bits_of s) (guarded (bits_of s) word) (code.judged content).verdict
 
   -- the word of a cell: the mended one where the treatment is mended, else the stored one
   abbrev pub word_of : Verdict → ℕ → ℕ
   word_of Sound content = data_of word_bits content
-  word_of Mended content = (code.judged content).1
+  word_of Mended content = (code.judged content).word
   word_of Bad content = data_of word_bits content
 
   -- The examination of a cell: bit 4, the log, bit 15 and the tally follow its verdict.
   abbrev pub examined : State → (word content : ℕ) → State
   examined s word content = record {
     store = s.store;
-    registers = examined_registers s.registers (guarded (bits_of s) word) (code.judged content).0 (block_of p word) (code.judged content).2;
+    registers = examined_registers s.registers (guarded (bits_of s) word) (code.judged content).verdict (block_of p word) (code.judged content).syndrome;
     tallies = tallied_at s.tallies word (treated s word content);
     place = s.place;
   }
@@ -118,7 +118,7 @@ module _ (code : Coding) (p : Placed) where
   cell_with_byte s word address byte content Sound =
       cell_for s word (merged (high_byte address) (data_of word_bits content) byte)
   cell_with_byte s word address byte content Mended =
-      cell_for s word (merged (high_byte address) (code.judged content).1 byte)
+      cell_for s word (merged (high_byte address) (code.judged content).word byte)
   cell_with_byte s word address byte content Bad = content
 
   -- DATOB
