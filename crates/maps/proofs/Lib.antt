@@ -1,2 +1,2 @@
-pub mod BankLoops
+pub mod Places
 pub mod MapCells

@@ -1,12 +1,16 @@
 -- Bank maps: which counts and pairs make a map, and which cell below a cell stands for.
 -- Assumes nothing.
-use Rattle.std.specs.Prelude.{ℕ, ◌+◌, ◌-◌, Bool, true, cond, ◌&&◌, List, [], ◌∷◌, length, Some, None, Option, nat_le, nat_lt}
+use Rattle.std.specs.Prelude.{ℕ, ◌+◌, ◌-◌, Bool, true, cond, ◌&&◌, List, [], ◌∷◌, filter, length, Some, None, Option, nat_le, nat_lt}
 use Rattle.maps.specs.declared.bank.Bank.{Bank}
 use Rattle.stores.specs.Meaning.{most_cells}
 
 -- a map has at most this many banks
 abbrev pub most_banks : ℕ
 most_banks = 8
+
+-- the banks that stand in a row of places: those that have cells
+abbrev pub banks_in : List Bank → List Bank
+banks_in places = filter (λ bank. nat_lt 0 bank.length) places
 
 -- the number after the bank's last cell
 abbrev pub end_of : Bank → ℕ

@@ -1,25 +1,24 @@
 -- Bank maps as values, and what a map over a store means.
 -- Assumes nothing.
-use Rattle.std.specs.Prelude.{◌≡◌, ℕ, ◌<◌, ◌≤◌, cond, ◌&&◌, List, length, take, Some, None, Ok, Err, Option, Result, nat_le, slice_index_or}
+use Rattle.std.specs.Prelude.{◌≡◌, ℕ, ◌<◌, cond, List, Some, None, Ok, Err, Option, Result}
 use Rattle.std.proofs.Common.{arith}
-use Rattle.std.proofs.lemmas.Bool.{leb-true, and_parts}
 use Rattle.maps.specs.declared.bank.Bank.{Bank}
 use Rattle.maps.specs.declared.banks.BankMap.{BankMap}
 use Rattle.maps.specs.declared.banks.make.NoMap.{NoMap}
 use Rattle.stores.specs.declared.fault.Cause.TheVariants.{NotFitted}
 use Rattle.stores.specs.declared.fault.Fault.{Fault}
 use Rattle.stores.specs.Faults.{fault}
-use Rattle.stores.specs.Meaning.{Meaning, Proper, most_cells, content_limit}
+use Rattle.stores.specs.Meaning.{Meaning, Proper, content_limit}
 use Rattle.stores.specs.Layers.{layered}
 use Rattle.stores.specs.Proper.{layered_proper}
-use Rattle.maps.specs.Banks.{most_banks, is_map, in_order, cell_below}
+use Rattle.maps.specs.Banks.{is_map, banks_in, cell_below}
 
 -- the count of a map, and its banks
 abbrev pub count_of : BankMap → ℕ
 count_of map = map.count
 
 abbrev pub banks_of : BankMap → List Bank
-banks_of map = take map.used map.banks
+banks_of map = banks_in map.banks
 
 -- the number of the refusal of a count and banks that are no map
 abbrev pub no_map_number : ℕ
@@ -47,18 +46,9 @@ mapped map below = mapped_by (count_of map) (banks_of map) below
 -- a map over a proper store is proper
 mapped_narrow : (below : Meaning) → Proper below → (i v : ℕ) (j : Option ℕ) → mapped_cell below i j ≡ Ok v → v < content_limit
 mapped_narrow below p i v (Some j) e = p.narrow j v e
-mapped_narrow below p i v None e = let z : ◌≡◌ {A = ℕ} 0 1 = cc in omega arith
+mapped_narrow below p i v None e = absurd (cc e)
 
 pub mapped_proper : (map : BankMap) (below : Meaning) → Proper below → Proper (mapped map below)
 mapped_proper map below p =
-    layered_proper 3 map.count (λ i. mapped_cell below i (cell_below (banks_of map) 0 i))
-    (leb-true map.count most_cells (and_parts (nat_le map.count most_cells) (nat_le (length (banks_of map)) most_banks && in_order map.count 0 (banks_of map)) map.lawful).0)
+    layered_proper 3 map.count (λ i. mapped_cell below i (cell_below (banks_of map) 0 i)) (grind (arith, map.lawful))
     (λ i v. mapped_narrow below p i v (cell_below (banks_of map) 0 i))
-
--- few banks, none longer than a store can be: so that sums of their lengths are small
-abbrev pub no_bank : Bank
-no_bank = record { offset = 0; length = 0 }
-
-pub record Short (banks : List Bank) : Type 0 where
-  pub few : length banks ≤ most_banks
-  pub each : (k : ℕ) → k < length banks → (slice_index_or banks k no_bank).length ≤ most_cells

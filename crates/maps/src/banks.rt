@@ -1,6 +1,6 @@
 // Bank maps: a value type that is always a map.
-ghost use Rattle.std.specs.Prelude.{◌≡◌, ◌≤◌, true, take};
-ghost use Rattle.maps.specs.Banks.{is_map};
+ghost use Rattle.std.specs.Prelude.{◌≡◌, true};
+ghost use Rattle.maps.specs.Banks.{is_map, banks_in};
 
 use crate::bank::Bank;
 
@@ -10,8 +10,7 @@ pub(crate) mod make;
 #[derive(Clone, Copy)]
 pub struct BankMap {
     count: u32,
-    used: usize,
+    // The banks in their order, and empty ones in the places behind them.
     banks: [Bank; 8],
-    ghost lawful: { is_map count (take used banks) ≡ true },
-    ghost few: { used ≤ 8 },
+    ghost lawful: { is_map count (banks_in banks) ≡ true },
 }

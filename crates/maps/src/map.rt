@@ -1,13 +1,13 @@
 // A bank map over any store.
 ghost use Rattle.std.specs.Prelude.{◌≡◌};
+ghost use Rattle.std.specs.Option.{ok_or};
 ghost use Rattle.stores.specs.Faults.{fault};
 ghost use Rattle.stores.specs.declared.fault.Cause.TheVariants.{NotFitted};
-ghost use Rattle.maps.specs.Maps.{mapped, mapped_proper};
+ghost use Rattle.maps.specs.Banks.{cell_below};
+ghost use Rattle.maps.specs.Maps.{banks_of, mapped, mapped_proper};
 
 use crate::banks::BankMap;
-use stores::{Bench, Cause, Fault, Store, test_cell, test_write};
-
-const LAYER: u8 = 3;
+use stores::{Bench, Cause, Fault, Store};
 
 #[derive(Drop)]
 pub struct Map<'m, S: Store> {
@@ -24,6 +24,17 @@ impl<'m, S: Store> Map<'m, S> {
     }
 }
 
+impl<S: Store> Map<'_, S> {
+    // The cell below that a cell stands for.
+    fn cell_below(&self, cell: u32) -> Result<u32, Fault>
+        ensures { result ≡ ok_or (cell_below (banks_of self.now.map.now) 0 cell) (fault NotFitted 3 cell) }
+    {
+        self.map
+            .cell_below(cell)
+            .ok_or(self.fault(Cause::NotFitted, cell))
+    }
+}
+
 impl<S: Store> Store for Map<'_, S> {
     ghost meaning = { λ m. mapped m.map.now (S.Store.meaning m.below) };
 
@@ -31,43 +42,31 @@ impl<S: Store> Store for Map<'_, S> {
 
     ghost proper = { λ m. mapped_proper m.map.now (S.Store.meaning m.below) (S.Store.proper m.below) };
 
+    fn layer(&self) -> u8 {
+        3
+    }
+
     fn count(&self) -> u32 {
         self.map.count()
     }
 
     fn read(&self, cell: u32) -> Result<u32, Fault> {
-        test_cell(LAYER, self.count(), cell)?;
-        match self.map.cell_below(cell) {
-            Some(below) => self.below.read(below),
-            None => Err(not_fitted(cell)),
-        }
+        self.test_cell(cell)?;
+        let below = self.cell_below(cell)?;
+        self.below.read(below)
     }
 
     fn write(&mut self, cell: u32, content: u32) -> Result<(), Fault> {
-        test_write(LAYER, self.count(), cell, content)?;
-        match self.map.cell_below(cell) {
-            Some(below) => self.below.write(below, content),
-            None => Err(not_fitted(cell)),
-        }
+        self.test_write(cell, content)?;
+        let below = self.cell_below(cell)?;
+        self.below.write(below, content)
     }
 }
 
 impl<S: Bench> Bench for Map<'_, S> {
     fn upset(&mut self, cell: u32, mask: u32) -> Result<(), Fault> {
-        test_write(LAYER, self.count(), cell, mask)?;
-        match self.map.cell_below(cell) {
-            Some(below) => self.below.upset(below, mask),
-            None => Err(not_fitted(cell)),
-        }
-    }
-}
-
-fn not_fitted(cell: u32) -> Fault
-    ensures { result ≡ fault NotFitted 3 cell }
-{
-    Fault {
-        cause: Cause::NotFitted,
-        layer: LAYER,
-        cell,
+        self.test_write(cell, mask)?;
+        let below = self.cell_below(cell)?;
+        self.below.upset(below, mask)
     }
 }

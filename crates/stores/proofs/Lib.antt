@@ -1,3 +1,1 @@
-pub mod Changes
 pub mod Elements
-pub mod Frames

@@ -1,16 +1,19 @@
 // Faults: why a store refuses, which layer says so, and of which of its cells.
-ghost use Rattle.std.specs.Prelude.{◌≡◌};
+ghost use Rattle.std.specs.Prelude.{◌≡◌, Some};
 ghost use Rattle.stores.specs.Faults.{cause_number};
+ghost use Rattle.stores.specs.Texts.{fault_text};
+
+use std::fmt;
 
 // Why a store refuses, in the order in which a layer tests.
 #[derive(Clone, Copy, PartialEq, Eq, Debug)]
 pub enum Cause {
     // The cell is at or past the count.
-    PastCount,
+    PastCount = 1,
     // The content to be written is 4,194,304 or more.
-    TooWide,
+    TooWide = 2,
     // The cell is not fitted.
-    NotFitted,
+    NotFitted = 3,
 }
 
 impl Cause {
@@ -18,11 +21,7 @@ impl Cause {
     pub fn number(self) -> u8
         ensures { result ≡ cause_number self }
     {
-        match self {
-            Cause::PastCount => 1,
-            Cause::TooWide => 2,
-            Cause::NotFitted => 3,
-        }
+        self as u8
     }
 }
 
@@ -32,4 +31,13 @@ pub struct Fault {
     pub cause: Cause,
     pub layer: u8,
     pub cell: u32,
+}
+
+impl fmt::Display for Fault {
+    ghost output = { λ f. Some (fault_text f) };
+
+    fn fmt<W: fmt::Write>(&self, f: &mut fmt::Formatter<W>) -> fmt::Result {
+        let Fault { cause, layer, cell } = *self;
+        write!(f, "cause {} layer {layer} cell {cell}", cause.number())
+    }
 }

@@ -2,7 +2,6 @@
 ghost use Rattle.std.specs.Prelude.{◌≡◌, is_ok};
 ghost use Rattle.stores.specs.Meaning.{FrameStays};
 
-use crate::fault::Fault;
 use crate::store::Store;
 
 // Whether the cell has a content. No write and no upset changes that, nor the layer number, the count or a fault.
@@ -10,14 +9,5 @@ pub fn is_fitted<S: Store>(store: &S, cell: u32) -> bool
     ensures value { result ≡ is_ok ((S.Store.meaning store.now).at cell) }
     ensures stays { FrameStays (S.Store.meaning store.now) }
 {
-    has_content(store.read(cell))
-}
-
-fn has_content(held: Result<u32, Fault>) -> bool
-    ensures { result ≡ is_ok held }
-{
-    match held {
-        Ok(_) => true,
-        Err(_) => false,
-    }
+    store.read(cell).is_ok()
 }

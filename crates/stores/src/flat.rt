@@ -8,10 +8,7 @@ ghost use Rattle.stores.specs.Proper.{flat_proper};
 use crate::bench::Bench;
 use crate::bits::with_low_bits;
 use crate::fault::Fault;
-use crate::refusal::{test_cell, test_write};
-use crate::store::{CONTENT_BITS, CONTENT_LIMIT, MOST_CELLS, Store};
-
-const LAYER: u8 = 1;
+use crate::store::{CONTENT_BITS, CONTENT_LIMIT, Store, limited};
 
 #[derive(Drop)]
 pub struct Flat<'a> {
@@ -34,22 +31,21 @@ impl Store for Flat<'_> {
 
     ghost proper = { λ s. flat_proper s.cells.now };
 
+    fn layer(&self) -> u8 {
+        1
+    }
+
     fn count(&self) -> u32 {
-        let n = self.cells.len();
-        if n < MOST_CELLS as usize {
-            n as u32
-        } else {
-            MOST_CELLS
-        }
+        limited(self.cells.len())
     }
 
     fn read(&self, cell: u32) -> Result<u32, Fault> {
-        test_cell(LAYER, self.count(), cell)?;
+        self.test_cell(cell)?;
         Ok(self.cells[cell as usize] % CONTENT_LIMIT)
     }
 
     fn write(&mut self, cell: u32, content: u32) -> Result<(), Fault> {
-        test_write(LAYER, self.count(), cell, content)?;
+        self.test_write(cell, content)?;
         let at = cell as usize;
         self.cells[at] = with_low_bits(self.cells[at], content, CONTENT_BITS);
         Ok(())
@@ -58,7 +54,7 @@ impl Store for Flat<'_> {
 
 impl Bench for Flat<'_> {
     fn upset(&mut self, cell: u32, mask: u32) -> Result<(), Fault> {
-        test_write(LAYER, self.count(), cell, mask)?;
+        self.test_write(cell, mask)?;
         self.cells[cell as usize] ^= mask;
         Ok(())
     }

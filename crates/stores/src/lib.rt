@@ -7,7 +7,6 @@ mod fault;
 mod fitted;
 mod flat;
 mod pair;
-mod refusal;
 mod split;
 mod store;
 
@@ -16,6 +15,5 @@ pub use fault::{Cause, Fault};
 pub use fitted::is_fitted;
 pub use flat::Flat;
 pub use pair::Pair;
-pub use refusal::{test_cell, test_write};
 pub use split::Split;
 pub use store::{CONTENT_BITS, CONTENT_LIMIT, MOST_CELLS, Store};

@@ -6,10 +6,7 @@ ghost use Rattle.stores.specs.Proper.{pair_proper};
 
 use crate::bench::Bench;
 use crate::fault::Fault;
-use crate::refusal::{test_cell, test_write};
 use crate::store::{MOST_CELLS, Store};
-
-const LAYER: u8 = 2;
 
 #[derive(Drop)]
 pub struct Pair<F: Store, S: Store> {
@@ -33,17 +30,17 @@ impl<F: Store, S: Store> Store for Pair<F, S> {
 
     ghost proper = { λ p. pair_proper (F.Store.meaning p.first) (S.Store.meaning p.second) (F.Store.proper p.first) (S.Store.proper p.second) };
 
+    fn layer(&self) -> u8 {
+        2
+    }
+
     fn count(&self) -> u32 {
         let least = self.first.count().min(self.second.count());
-        if least < MOST_CELLS / 2 {
-            2 * least
-        } else {
-            MOST_CELLS
-        }
+        2 * least.min(MOST_CELLS / 2)
     }
 
     fn read(&self, cell: u32) -> Result<u32, Fault> {
-        test_cell(LAYER, self.count(), cell)?;
+        self.test_cell(cell)?;
         if cell % 2 == 0 {
             self.first.read(cell / 2)
         } else {
@@ -52,7 +49,7 @@ impl<F: Store, S: Store> Store for Pair<F, S> {
     }
 
     fn write(&mut self, cell: u32, content: u32) -> Result<(), Fault> {
-        test_write(LAYER, self.count(), cell, content)?;
+        self.test_write(cell, content)?;
         if cell % 2 == 0 {
             self.first.write(cell / 2, content)
         } else {
@@ -63,7 +60,7 @@ impl<F: Store, S: Store> Store for Pair<F, S> {
 
 impl<F: Bench, S: Bench> Bench for Pair<F, S> {
     fn upset(&mut self, cell: u32, mask: u32) -> Result<(), Fault> {
-        test_write(LAYER, self.count(), cell, mask)?;
+        self.test_write(cell, mask)?;
         if cell % 2 == 0 {
             self.first.upset(cell / 2, mask)
         } else {

@@ -7,10 +7,7 @@ ghost use Rattle.stores.specs.Proper.{split_proper};
 use crate::bench::Bench;
 use crate::bits::with_low_bits;
 use crate::fault::Fault;
-use crate::refusal::{test_cell, test_write};
-use crate::store::{MOST_CELLS, Store};
-
-const LAYER: u8 = 1;
+use crate::store::{Store, limited};
 
 #[derive(Drop)]
 pub struct Split<'a, 'b> {
@@ -37,23 +34,22 @@ impl Store for Split<'_, '_> {
 
     ghost proper = { λ s. split_proper s.words.now s.checks.now };
 
+    fn layer(&self) -> u8 {
+        1
+    }
+
     fn count(&self) -> u32 {
-        let n = self.words.len().min(self.checks.len());
-        if n < MOST_CELLS as usize {
-            n as u32
-        } else {
-            MOST_CELLS
-        }
+        limited(self.words.len().min(self.checks.len()))
     }
 
     fn read(&self, cell: u32) -> Result<u32, Fault> {
-        test_cell(LAYER, self.count(), cell)?;
+        self.test_cell(cell)?;
         let at = cell as usize;
         Ok(content_of(self.words[at], self.checks[at]))
     }
 
     fn write(&mut self, cell: u32, content: u32) -> Result<(), Fault> {
-        test_write(LAYER, self.count(), cell, content)?;
+        self.test_write(cell, content)?;
         let at = cell as usize;
         self.words[at] = (content & 0xffff) as u16;
         self.checks[at] = with_low_bits(u32::from(self.checks[at]), content >> 16, 6) as u8;
@@ -63,7 +59,7 @@ impl Store for Split<'_, '_> {
 
 impl Bench for Split<'_, '_> {
     fn upset(&mut self, cell: u32, mask: u32) -> Result<(), Fault> {
-        test_write(LAYER, self.count(), cell, mask)?;
+        self.test_write(cell, mask)?;
         let at = cell as usize;
         self.words[at] ^= (mask & 0xffff) as u16;
         self.checks[at] ^= (mask >> 16) as u8;

@@ -1,13 +1,18 @@
 // Making a bank map, and finding a cell by it.
-ghost use Rattle.std.specs.Prelude.{◌≡◌, ◌≤◌, true, length, take};
+ghost use Rattle.std.specs.Prelude.{◌≡◌};
 ghost use Rattle.maps.specs.Banks.{in_order, cell_below, follows as does_follow, inside as is_inside};
-ghost use Rattle.maps.specs.Maps.{count_of, banks_of, made_map, new_map, no_map_number, Short};
+ghost use Rattle.maps.specs.Maps.{count_of, banks_of, made_map, new_map, no_map_number};
 
 use crate::bank::Bank;
 use crate::banks::BankMap;
 use stores::MOST_CELLS;
 
 const MOST_BANKS: usize = 8;
+
+const NO_BANK: Bank = Bank {
+    offset: 0,
+    length: 0,
+};
 
 // A count and banks that are no map.
 #[derive(Clone, Copy, PartialEq, Eq, Debug)]
@@ -29,10 +34,11 @@ impl BankMap {
         if count > MOST_CELLS || banks.len() > MOST_BANKS || !ordered(count, banks) {
             return Err(NoMap);
         }
+        let mut places = [NO_BANK; MOST_BANKS];
+        places[..banks.len()].copy_from_slice(banks);
         Ok(BankMap {
             count,
-            used: banks.len(),
-            banks: eight(banks),
+            banks: places,
         })
     }
 
@@ -46,7 +52,14 @@ impl BankMap {
     pub fn cell_below(&self, cell: u32) -> Option<u32>
         ensures { result ≡ cell_below (banks_of self.now) 0 cell }
     {
-        below_among(&self.banks[0..self.used], cell)
+        let mut before = 0;
+        for bank in &self.banks {
+            if inside(*bank, cell) {
+                return Some(before + (cell - bank.offset));
+            }
+            before += bank.length;
+        }
+        None
     }
 }
 
@@ -71,34 +84,6 @@ fn follows(count: u32, from: u32, bank: Bank) -> bool
         && bank.length > 0
         && bank.offset <= count
         && bank.length <= count - bank.offset
-}
-
-fn eight(banks: &[Bank]) -> [Bank; 8]
-    requires { length banks.now ≤ 8 }
-    ensures { take (length banks.now) result ≡ banks.now }
-{
-    let mut all = [Bank {
-        offset: 0,
-        length: 0,
-    }; 8];
-    for (i, bank) in banks.iter().enumerate() {
-        all[i] = *bank;
-    }
-    all
-}
-
-fn below_among(banks: &[Bank], cell: u32) -> Option<u32>
-    requires { Short banks.now }
-    ensures { result ≡ cell_below banks.now 0 cell }
-{
-    let mut before = 0;
-    for bank in banks {
-        if inside(*bank, cell) {
-            return Some(before + (cell - bank.offset));
-        }
-        before += bank.length;
-    }
-    None
 }
 
 fn inside(bank: Bank, cell: u32) -> bool

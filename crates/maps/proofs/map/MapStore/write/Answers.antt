@@ -1,16 +1,6 @@
-use Rattle.std.proofs.Common.{rules}
-use Rattle.maps.specs.Maps.{count_of, banks_of}
-use Rattle.maps.proofs.MapCells.{mapped_granted}
+use Rattle.std.proofs.Common.{arith}
+use Rattle.maps.proofs.MapCells.{mapped_leaves}
 use Rattle.maps.proofs.map.MapStore.write.Goals as goal
 
-pub returns-in-Some : goal.returns-in-Some
-returns-in-Some g c =
-    let store = g.S.Store in
-    let map = c.args.self.now.map.now in
-    let old = c.args.self.now.below in
-    let done =
-    mapped_granted (count_of map) (banks_of map) (store.meaning old) (store.meaning c.write.new.self) (store.proper old) c.args.cell c.in-Some.below c.args.content
-    c.count.result (λ old. c.args.content) c.write.result c.count.ensures c.in_ok-test_write.ensures c.in-Some.ensures
-    (search rules) (search rules)
-    in
-    record { answers = done.0; leaves = done.1; keeps = search rules }
+pub returns-clause-leaves : goal.returns-clause-leaves
+returns-clause-leaves g c = grind (arith, mapped_leaves, g.S.Store.proper)

@@ -1,12 +1,7 @@
-use Rattle.std.proofs.Common.{arith, rules}
-use Rattle.stores.proofs.Elements.{flat_granted}
+use Rattle.std.proofs.Common.{arith, length-set}
+use Rattle.std.proofs.lemmas.List.{drop-set-lt}
+use Rattle.stores.proofs.Elements.{unused_kept}
 use Rattle.stores.proofs.flat.FlatStore.write.Goals as goal
 
-pub returns : goal.returns
-returns c =
-    let element = c.with_low_bits.ensures in
-    let done =
-    flat_granted c.args.self.now.cells.now c.args.self.now.cells.ghost_name c.args.cell c.args.content c.with_low_bits.result
-    (λ old. c.args.content) c.count.result c.count.ensures c.in_ok-test_write.ensures (λ fits. (omega arith, omega arith))
-    in
-    search rules
+pub returns-clause-keeps : goal.returns-clause-keeps
+returns-clause-keeps c = grind (arith, length-set, drop-set-lt, unused_kept)
