@@ -1,6 +1,6 @@
 // The control word's own bits and the check latch, in one record.
 ghost use Rattle.std.specs.Prelude.{◌≡◌};
-ghost use Rattle.rules.specs.Control.{on, treatment, marks_single, logs, bits_after, latches, guarded as is_guarded};
+ghost use Rattle.rules.specs.Control.{on, treatment, marks_single, logs, bits_after, latches, guarded};
 ghost use Rattle.rules.specs.Registers.{control_of, control_written, latch_loaded};
 
 use codes::{Verdict, low_bits};
@@ -49,37 +49,35 @@ impl Control {
     }
 
     // Whether the word lies in the half that diagnostics leave alone.
-    pub(crate) fn guards(&self, word: u32) -> bool
-        ensures { result ≡ is_guarded self.now.bits word }
+    fn guards(&self, word: u32) -> bool
+        ensures { result ≡ guarded self.now.bits word }
     {
-        let half = if self.is_on(POINTER) { 1 } else { 0 };
-        self.is_on(INHIBIT) && word / HALF_WORDS == half
+        self.is_on(INHIBIT) && word / HALF_WORDS == u32::from(self.is_on(POINTER))
     }
 
-    // What a verdict on a cell comes to.
-    pub(crate) fn treat(&self, guarded: bool, verdict: Verdict) -> Verdict
-        ensures { result ≡ treatment self.now.bits guarded verdict }
+    // What a verdict on the cell of a word comes to.
+    pub(crate) fn treat(&self, word: u32, verdict: Verdict) -> Verdict
+        ensures { result ≡ treatment self.now.bits (guarded self.now.bits word) verdict }
     {
         match verdict {
-            Verdict::Mended if self.is_on(CORRECTION_OFF) && !guarded => Verdict::Bad,
+            Verdict::Mended if self.is_on(CORRECTION_OFF) && !self.guards(word) => Verdict::Bad,
             _ => verdict,
         }
     }
 
-    fn marks_single(&self, guarded: bool, verdict: Verdict) -> bool
-        ensures { result ≡ marks_single self.now.bits guarded verdict }
+    // Whether a verdict on the cell of a word sets bit 4.
+    fn marks_single(&self, word: u32, verdict: Verdict) -> bool
+        ensures { result ≡ marks_single self.now.bits (guarded self.now.bits word) verdict }
     {
-        match verdict {
-            Verdict::Mended => !(self.is_on(CORRECTION_OFF) && !self.is_on(DIAGNOSTIC) && guarded),
-            _ => false,
-        }
+        matches!(verdict, Verdict::Mended)
+            && !(self.is_on(CORRECTION_OFF) && !self.is_on(DIAGNOSTIC) && self.guards(word))
     }
 
-    // Whether a treatment is logged.
-    pub(crate) fn logs(&self, guarded: bool, treatment: Verdict) -> bool
-        ensures { result ≡ logs self.now.bits guarded treatment }
+    // Whether a treatment of the cell of a word is logged.
+    pub(crate) fn logs(&self, word: u32, treatment: Verdict) -> bool
+        ensures { result ≡ logs self.now.bits (guarded self.now.bits word) treatment }
     {
-        if self.is_on(DIAGNOSTIC) || self.is_on(CORRECTION_OFF) && guarded {
+        if self.is_on(DIAGNOSTIC) || self.is_on(CORRECTION_OFF) && self.guards(word) {
             return false;
         }
         match treatment {
@@ -89,34 +87,31 @@ impl Control {
         }
     }
 
-    // Sets bit 4 and bit 15 by the verdict on a cell.
-    pub(crate) fn mark(&mut self, guarded: bool, verdict: Verdict)
-        ensures { self.new ≡ control_of (bits_after self.old.bits guarded verdict) self.old.latch }
+    // Sets bit 4 and bit 15 by the verdict on the cell of a word.
+    pub(crate) fn mark(&mut self, word: u32, verdict: Verdict)
+        ensures { self.new ≡ control_of (bits_after self.old.bits (guarded self.old.bits word) verdict) self.old.latch }
     {
-        let single = if self.marks_single(guarded, verdict) {
-            SINGLE_ERROR
-        } else {
-            0
-        };
-        let uncorrectable = match self.treat(guarded, verdict) {
-            Verdict::Bad => UNCORRECTABLE,
-            _ => 0,
-        };
-        self.bits = self.bits | single | uncorrectable;
+        let treatment = self.treat(word, verdict);
+        if self.marks_single(word, verdict) {
+            self.bits |= SINGLE_ERROR;
+        }
+        if matches!(treatment, Verdict::Bad) {
+            self.bits |= UNCORRECTABLE;
+        }
     }
 
-    // Whether checks go to and from the latch.
-    pub(crate) fn latches(&self, guarded: bool) -> bool
-        ensures { result ≡ latches self.now.bits guarded }
+    // Whether the checks of a word go to and from the latch.
+    pub(crate) fn latches(&self, word: u32) -> bool
+        ensures { result ≡ latches self.now.bits (guarded self.now.bits word) }
     {
-        self.is_on(DIAGNOSTIC) && !guarded
+        self.is_on(DIAGNOSTIC) && !self.guards(word)
     }
 
     // The latch takes the stored checks of a word that is read.
-    pub(crate) fn load_latch(&mut self, guarded: bool, checks: u8)
-        ensures { self.new ≡ latch_loaded self.old guarded checks }
+    pub(crate) fn load_latch(&mut self, word: u32, checks: u8)
+        ensures { self.new ≡ latch_loaded self.old (guarded self.old.bits word) checks }
     {
-        if self.latches(guarded) {
+        if self.latches(word) {
             self.latch = checks;
         }
     }

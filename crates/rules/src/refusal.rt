@@ -35,8 +35,5 @@ impl Refusal {
 pub fn carry<T>(address: u32, given: Result<T, Fault>) -> Result<T, Refusal>
     ensures { result ≡ carried address given }
 {
-    match given {
-        Ok(x) => Ok(x),
-        Err(fault) => Err(Refusal::Store { address, fault }),
-    }
+    given.map_err(|fault| Refusal::Store { address, fault })
 }

@@ -63,13 +63,12 @@ impl Registers {
         ensures answers { result ≡ treatment self.old.control.bits (guarded self.old.control.bits word) verdict }
         ensures leaves { self.new ≡ examined_registers self.old (guarded self.old.control.bits word) verdict block syndrome }
     {
-        let guarded = self.control.guards(word);
-        let treatment = self.control.treat(guarded, verdict);
-        if self.control.logs(guarded, treatment) {
+        let treatment = self.control.treat(word, verdict);
+        if self.control.logs(word, treatment) {
             self.block = block;
             self.syndrome = syndrome;
         }
-        self.control.mark(guarded, verdict);
+        self.control.mark(word, verdict);
         treatment
     }
 
@@ -84,18 +83,13 @@ impl Registers {
     pub fn load_latch(&mut self, word: u32, checks: u8)
         ensures { self.new ≡ with_control self.old (latch_loaded self.old.control (guarded self.old.control.bits word) checks) }
     {
-        let guarded = self.control.guards(word);
-        self.control.load_latch(guarded, checks);
+        self.control.load_latch(word, checks);
     }
 
     // The latch, where a word is written with its checks in the place of the word's own.
     pub fn latched_checks(&self, word: u32) -> Option<u8>
         ensures { result ≡ checks_latched self.now.control (guarded self.now.control.bits word) }
     {
-        if self.control.latches(self.control.guards(word)) {
-            Some(self.control.latch)
-        } else {
-            None
-        }
+        self.control.latches(word).then_some(self.control.latch)
     }
 }

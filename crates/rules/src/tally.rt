@@ -8,7 +8,7 @@ use codes::Verdict;
 // The words of a bank.
 const BANK_WORDS: u32 = 65536;
 
-const BANKS: u32 = 8;
+const BANKS: usize = 8;
 
 // How many treatments were mended and how many bad, each up to 65,535.
 #[derive(Clone, Copy)]
@@ -31,7 +31,7 @@ impl Tally {
 
 #[derive(Clone, Copy)]
 pub struct Tallies {
-    banks: [Tally; 8],
+    banks: [Tally; BANKS],
 }
 
 impl Tallies {
@@ -39,7 +39,7 @@ impl Tallies {
         ensures { result ≡ no_tallies }
     {
         Tallies {
-            banks: [Tally { mended: 0, bad: 0 }; 8],
+            banks: [Tally { mended: 0, bad: 0 }; BANKS],
         }
     }
 
@@ -56,5 +56,5 @@ fn bank_of(word: u32) -> usize
     ensures value { result ≡ bank_of word }
     ensures bound { result < 8 }
 {
-    (word / BANK_WORDS % BANKS) as usize
+    (word / BANK_WORDS) as usize % BANKS
 }

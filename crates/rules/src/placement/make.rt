@@ -27,11 +27,11 @@ const FIRST_CONTROL: u32 = 0o17772100 / 2;
 #[derive(Clone, Copy, PartialEq, Eq, Debug)]
 pub enum Misplaced {
     // The capacity is 0, too large or no multiple of 8,192.
-    Capacity,
+    Capacity = 1,
     // The start is no multiple of 8,192, or the words would end past the memory's part of the bus.
-    Start,
+    Start = 2,
     // The control number is above 15.
-    Control,
+    Control = 3,
 }
 
 impl Misplaced {
@@ -39,11 +39,7 @@ impl Misplaced {
     pub fn number(self) -> u8
         ensures { result ≡ misplaced_number self }
     {
-        match self {
-            Misplaced::Capacity => 1,
-            Misplaced::Start => 2,
-            Misplaced::Control => 3,
-        }
+        self as u8
     }
 }
 
