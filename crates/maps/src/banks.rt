@@ -6,11 +6,14 @@ use crate::bank::Bank;
 
 pub(crate) mod make;
 
+// No map has more banks than this.
+const MOST_BANKS: usize = 8;
+
 // A count, and at most eight banks in order that do not overlap and end within the count.
 #[derive(Clone, Copy)]
 pub struct BankMap {
     count: u32,
     // The banks in their order, and empty ones in the places behind them.
-    banks: [Bank; 8],
+    banks: [Bank; MOST_BANKS],
     ghost lawful: { is_map count (banks_in banks) ≡ true },
 }

@@ -4,10 +4,8 @@ ghost use Rattle.maps.specs.Banks.{in_order, cell_below, follows as does_follow,
 ghost use Rattle.maps.specs.Maps.{count_of, banks_of, made_map, new_map, no_map_number};
 
 use crate::bank::Bank;
-use crate::banks::BankMap;
+use crate::banks::{BankMap, MOST_BANKS};
 use stores::MOST_CELLS;
-
-const MOST_BANKS: usize = 8;
 
 const NO_BANK: Bank = Bank {
     offset: 0,
