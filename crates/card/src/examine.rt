@@ -15,10 +15,8 @@ impl<S: Store, C: Code> Module<S, C> {
         ensures leaves { state_of S.Store.meaning self.new ≡ on_module looked C.Code.meaning S.Store.meaning self.old word ((S.Store.meaning self.old.store).at word) }
         ensures stays { Stays S.Store.outside self.old self.new }
     {
-        match self.store.read(word) {
-            Ok(content) => Ok(self.examine(word, content)),
-            Err(fault) => Err(fault),
-        }
+        let content = self.store.read(word)?;
+        Ok(self.examine(word, content))
     }
 
     // Judges a cell; sets bit 4, the log, bit 15 and the tally by the verdict.

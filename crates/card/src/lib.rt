@@ -2,6 +2,7 @@
 #![tactic(auto)]
 
 mod bench;
+mod content;
 mod examine;
 mod module;
 mod power;

@@ -1,13 +1,13 @@
 // Power-up: a module made of a placement, a store and a code.
-ghost use Rattle.std.specs.Prelude.{◌≡◌, ◌<◌};
-ghost use Rattle.stores.specs.Meaning.{content_limit};
+ghost use Rattle.std.specs.Prelude.{◌≡◌};
 ghost use Rattle.rules.specs.Targets.{placed};
 ghost use Rattle.card.specs.Modules.{state_of};
 ghost use Rattle.rules.specs.Laws.{TransferLaws};
 ghost use Rattle.rules.specs.Power.{filled, powered_up};
 
+use crate::content::Content;
 use crate::module::Module;
-use codes::{Code, encode};
+use codes::Code;
 use rules::{Placement, Registers, Tallies};
 use stores::Store;
 
@@ -20,7 +20,7 @@ impl<S: Store, C: Code> Module<S, C> {
         ensures code { result.code ≡ code }
         ensures memory { S.Store.outside result.store ≡ S.Store.outside store }
     {
-        fill(&mut store, placement.capacity(), encode::<C>(0));
+        fill(&mut store, placement.capacity(), Content::encoding::<C>(0));
         Module {
             placement,
             store,
@@ -33,12 +33,11 @@ impl<S: Store, C: Code> Module<S, C> {
 }
 
 // Writes one content into every fitted cell below n; the others refuse it and keep their faults.
-fn fill<S: Store>(store: &mut S, n: u32, content: u32)
-    requires { content < content_limit }
-    ensures leaves { S.Store.meaning store.new ≡ filled (S.Store.meaning store.old) n content }
+fn fill<S: Store>(store: &mut S, n: u32, content: Content)
+    ensures leaves { S.Store.meaning store.new ≡ filled (S.Store.meaning store.old) n content.bits }
     ensures memory { S.Store.outside store.new ≡ S.Store.outside store.old }
 {
     for cell in 0..n {
-        let _ = store.write(cell, content);
+        let _ = store.write(cell, content.bits);
     }
 }

@@ -1,38 +1,23 @@
 // The bus transfers: DATI, DATIP, DATO and DATOB, to words and to the control word.
-ghost use Rattle.std.specs.Prelude.{◌≡◌, ◌%◌, ◌^◌, ◌<◌, true, is_ok};
-ghost use Rattle.stores.specs.Meaning.{content_limit, granted};
-ghost use Rattle.rules.specs.Targets.{placed, target_of};
+ghost use Rattle.std.specs.Prelude.{◌≡◌, true, is_ok};
+ghost use Rattle.stores.specs.Meaning.{granted};
+ghost use Rattle.rules.specs.Targets.{placed};
 ghost use Rattle.rules.specs.Calls.{dati, datip, dato, datob, read_answer, wrote_answer};
 ghost use Rattle.card.specs.Modules.{state_of, on_module, answer_to, state_after, Stays};
-ghost use Rattle.rules.specs.Transfers.{read_cell, read_from, write_to, byte_to, write_byte, cell_for, put, put_if_fitted, merged};
+ghost use Rattle.rules.specs.Transfers.{read_cell, write_byte, cell_for, put, put_if_fitted, merged};
 
+use crate::content::Content;
 use crate::module::Module;
-use codes::{Code, Verdict, encode, pack, stored_checks};
+use codes::{Code, Verdict, stored_checks};
 use rules::{Refusal, Target, Treatment, WordRead, carry};
 use stores::{Fault, Store};
 
 impl<S: Store, C: Code> Module<S, C> {
     // Reads the word, or the control word, at a bus address.
+    #[tactic(auto, unfolding(rules::specs::Transfers::act))]
     pub fn dati(&mut self, address: u32) -> Result<WordRead, Refusal>
         ensures answers { read_answer result ≡ answer_to C.Code.meaning S.Store.meaning self.old (dati address) }
         ensures leaves { state_of S.Store.meaning self.new ≡ state_after C.Code.meaning S.Store.meaning self.old (dati address) }
-        ensures stays { Stays S.Store.outside self.old self.new }
-    {
-        self.read_from(address)
-    }
-
-    // Reads as DATI does; on the bus a write of the same word follows.
-    pub fn datip(&mut self, address: u32) -> Result<WordRead, Refusal>
-        ensures answers { read_answer result ≡ answer_to C.Code.meaning S.Store.meaning self.old (datip address) }
-        ensures leaves { state_of S.Store.meaning self.new ≡ state_after C.Code.meaning S.Store.meaning self.old (datip address) }
-        ensures stays { Stays S.Store.outside self.old self.new }
-    {
-        self.dati(address)
-    }
-
-    fn read_from(&mut self, address: u32) -> Result<WordRead, Refusal>
-        ensures answers { read_answer result ≡ (on_module read_from C.Code.meaning S.Store.meaning self.old address (target_of (placed self.old.placement) address)).answer }
-        ensures leaves { state_of S.Store.meaning self.new ≡ (on_module read_from C.Code.meaning S.Store.meaning self.old address (target_of (placed self.old.placement) address)).after }
         ensures stays { Stays S.Store.outside self.old self.new }
     {
         match self.placement.target(address)? {
@@ -43,6 +28,16 @@ impl<S: Store, C: Code> Module<S, C> {
                 parity: false,
             }),
         }
+    }
+
+    // Reads as DATI does; on the bus a write of the same word follows.
+    #[tactic(auto, unfolding(rules::specs::Transfers::act))]
+    pub fn datip(&mut self, address: u32) -> Result<WordRead, Refusal>
+        ensures answers { read_answer result ≡ answer_to C.Code.meaning S.Store.meaning self.old (datip address) }
+        ensures leaves { state_of S.Store.meaning self.new ≡ state_after C.Code.meaning S.Store.meaning self.old (datip address) }
+        ensures stays { Stays S.Store.outside self.old self.new }
+    {
+        self.dati(address)
     }
 
     fn read_cell(&mut self, address: u32, word: u32) -> Result<WordRead, Refusal>
@@ -62,43 +57,24 @@ impl<S: Store, C: Code> Module<S, C> {
     }
 
     // Writes a word, or the control word, at a bus address.
+    #[tactic(auto, unfolding(rules::specs::Transfers::act))]
     pub fn dato(&mut self, address: u32, word: u16) -> Result<Treatment, Refusal>
         ensures answers { wrote_answer result ≡ answer_to C.Code.meaning S.Store.meaning self.old (dato address word) }
         ensures leaves { state_of S.Store.meaning self.new ≡ state_after C.Code.meaning S.Store.meaning self.old (dato address word) }
         ensures stays { Stays S.Store.outside self.old self.new }
     {
-        self.write_to(address, word)
+        match self.placement.target(address)? {
+            Target::Word(at) => carry(address, self.put(at, self.cell_for(at, word)))?,
+            Target::ControlWord => self.registers.write_control(word),
+        }
+        Ok(Verdict::Sound)
     }
 
     // Writes one byte of a word at a bus address, whose bit 0 picks the high byte.
+    #[tactic(auto, unfolding(rules::specs::Transfers::act))]
     pub fn datob(&mut self, address: u32, byte: u8) -> Result<Treatment, Refusal>
         ensures answers { wrote_answer result ≡ answer_to C.Code.meaning S.Store.meaning self.old (datob address byte) }
         ensures leaves { state_of S.Store.meaning self.new ≡ state_after C.Code.meaning S.Store.meaning self.old (datob address byte) }
-        ensures stays { Stays S.Store.outside self.old self.new }
-    {
-        self.byte_to(address, byte)
-    }
-
-    fn write_to(&mut self, address: u32, given: u16) -> Result<Treatment, Refusal>
-        ensures answers { wrote_answer result ≡ (on_module write_to C.Code.meaning S.Store.meaning self.old address given (target_of (placed self.old.placement) address)).answer }
-        ensures leaves { state_of S.Store.meaning self.new ≡ (on_module write_to C.Code.meaning S.Store.meaning self.old address given (target_of (placed self.old.placement) address)).after }
-        ensures stays { Stays S.Store.outside self.old self.new }
-    {
-        match self.placement.target(address)? {
-            Target::Word(word) => {
-                carry(address, self.put(word, self.cell_for(word, given)))?;
-                Ok(Verdict::Sound)
-            }
-            Target::ControlWord => {
-                self.registers.write_control(given);
-                Ok(Verdict::Sound)
-            }
-        }
-    }
-
-    fn byte_to(&mut self, address: u32, byte: u8) -> Result<Treatment, Refusal>
-        ensures answers { wrote_answer result ≡ (on_module byte_to C.Code.meaning S.Store.meaning self.old address byte (target_of (placed self.old.placement) address)).answer }
-        ensures leaves { state_of S.Store.meaning self.new ≡ (on_module byte_to C.Code.meaning S.Store.meaning self.old address byte (target_of (placed self.old.placement) address)).after }
         ensures stays { Stays S.Store.outside self.old self.new }
     {
         match self.placement.target(address)? {
@@ -115,7 +91,7 @@ impl<S: Store, C: Code> Module<S, C> {
     {
         let look = carry(address, self.look(word))?;
         let content = match look.treatment {
-            Verdict::Bad => look.content,
+            Verdict::Bad => Content { bits: look.content },
             _ => self.cell_for(word, merge(address % 2 == 1, look.word, byte)),
         };
         self.put_fitted(word, content);
@@ -123,45 +99,32 @@ impl<S: Store, C: Code> Module<S, C> {
     }
 
     // The cell that a word is written as.
-    fn cell_for(&self, word: u32, given: u16) -> u32
-        ensures value { result ≡ on_module cell_for C.Code.meaning S.Store.meaning self.now word given }
-        ensures narrow { result < content_limit }
+    fn cell_for(&self, word: u32, given: u16) -> Content
+        ensures { result.bits ≡ on_module cell_for C.Code.meaning S.Store.meaning self.now word given }
     {
         match self.registers.latched_checks(word) {
-            Some(latch) => pack(given, low_checks::<C>(latch)),
-            None => encode::<C>(given),
+            Some(latch) => Content::with_latch::<C>(given, latch),
+            None => Content::encoding::<C>(given),
         }
     }
 
     // Sets the content of a word's cell; refused exactly where the cell is not fitted.
-    fn put(&mut self, word: u32, content: u32) -> Result<(), Fault>
-        requires { content < content_limit }
+    fn put(&mut self, word: u32, content: Content) -> Result<(), Fault>
         ensures answers { result ≡ granted ((S.Store.meaning self.old.store).at word) }
-        ensures leaves { state_of S.Store.meaning self.new ≡ on_module put_if_fitted C.Code.meaning S.Store.meaning self.old word content ((S.Store.meaning self.old.store).at word) }
+        ensures leaves { state_of S.Store.meaning self.new ≡ on_module put_if_fitted C.Code.meaning S.Store.meaning self.old word content.bits ((S.Store.meaning self.old.store).at word) }
         ensures stays { Stays S.Store.outside self.old self.new }
     {
-        self.store.write(word, content)
+        self.store.write(word, content.bits)
     }
 
     // Sets the content of a cell that was granted before: no second refusal can come.
-    fn put_fitted(&mut self, word: u32, content: u32)
-        requires narrow { content < content_limit }
-        requires fitted { is_ok ((S.Store.meaning self.old.store).at word) ≡ true }
-        ensures leaves { state_of S.Store.meaning self.new ≡ on_module put C.Code.meaning S.Store.meaning self.old word content }
+    fn put_fitted(&mut self, word: u32, content: Content)
+        requires { is_ok ((S.Store.meaning self.old.store).at word) ≡ true }
+        ensures leaves { state_of S.Store.meaning self.new ≡ on_module put C.Code.meaning S.Store.meaning self.old word content.bits }
         ensures stays { Stays S.Store.outside self.old self.new }
     {
-        match self.put(word, content) {
-            Ok(()) => {}
-            Err(_) => unreachable(),
-        }
+        self.put(word, content).unwrap();
     }
-}
-
-// The low K bits of the check latch.
-fn low_checks<C: Code>(latch: u8) -> u8
-    ensures { result ≡ latch % 2 ^ C.Code.meaning.width }
-{
-    stored_checks::<C>(pack(0, latch))
 }
 
 // A word with one of its bytes put in.
