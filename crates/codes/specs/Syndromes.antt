@@ -62,16 +62,18 @@ module _ (b k most r s : ℕ) (checks : ℕ → ℕ) (judge : ℕ → ℕ → Ju
         says.shown (data_of b cell) (syndrome_of b k checks cell) ∙ says.sound_clear (data_of b cell) (syndrome_of b k checks cell) e;
     clear_sound = λ cell e.
         let s0 = sym (says.shown (data_of b cell) (syndrome_of b k checks cell)) ∙ e in
-        ap (λ (j : Judgement). j.verdict) (ap (judge (data_of b cell)) s0 ∙ says.clear (data_of b cell));
+        let clear = ap (judge (data_of b cell)) s0 ∙ says.clear (data_of b cell) in
+        cc;
     bad_stored = λ cell. says.bad_stored (data_of b cell) (syndrome_of b k checks cell);
     intact = judged_encoding;
     mended = λ word mask h l some few.
         let j = judged_changed word mask h l in
         let parts = ones_parts b mask in
         let m = changes.mended word (mask % 2 ^ b) (mask / 2 ^ b) h (data_below b mask) (mask_checks_below b k mask l) (omega arith) (omega arith) in
-        (ap (λ (j : Judgement). j.verdict) j ∙ m.0, ap (λ (j : Judgement). j.word) j ∙ m.1);
+        (cc, cc);
     found = λ word mask h l some few.
         let parts = ones_parts b mask in
-        ap (λ (j : Judgement). j.verdict) (judged_changed word mask h l)
-        ∙ changes.found word (mask % 2 ^ b) (mask / 2 ^ b) h (data_below b mask) (mask_checks_below b k mask l) (omega arith) (omega arith);
+        let j = judged_changed word mask h l in
+        let bad = changes.found word (mask % 2 ^ b) (mask / 2 ^ b) h (data_below b mask) (mask_checks_below b k mask l) (omega arith) (omega arith) in
+        cc;
   }

@@ -15,7 +15,7 @@ pub enum Verdict {
     Bad,
 }
 
-// The word is the mended one where the verdict is mended, else the stored one.
+// What judging a cell answers. The word is the mended one where the verdict is mended, else the stored one.
 #[derive(Clone, Copy, PartialEq, Eq, Debug)]
 pub struct Judgement {
     pub verdict: Verdict,
