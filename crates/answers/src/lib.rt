@@ -2,7 +2,9 @@
 #![tactic(auto)]
 
 mod answer;
+mod refused;
 mod totals;
 
 pub use answer::Answer;
+pub use refused::Refused;
 pub use totals::Totals;

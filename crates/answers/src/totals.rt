@@ -28,19 +28,17 @@ impl Totals {
         ensures { self.new ≡ counted self.old answer }
     {
         match answer {
-            Answer::Word { .. } | Answer::Treated { .. } => {
+            Answer::Word(_) | Answer::Treated { .. } => {
                 self.granted = self.granted.saturating_add(1)
             }
-            Answer::Refused { .. } | Answer::StoreRefused { .. } => {
-                self.refused = self.refused.saturating_add(1)
-            }
+            Answer::Refused(_) => self.refused = self.refused.saturating_add(1),
             Answer::Struck => self.struck = self.struck.saturating_add(1),
             _ => {}
         }
     }
 }
 
-// The closing line of a job, without its end.
+// The closing line of a job, without its end; by hand, since a derived text has no contract.
 impl fmt::Display for Totals {
     ghost output = { λ t. Some (totals_text t) };
 

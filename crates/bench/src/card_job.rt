@@ -1,19 +1,20 @@
 // A job on a card over a bench store: what each line answers, and what it does to the card.
 ghost use Rattle.std.specs.Prelude.{◌≡◌, None};
-ghost use Rattle.card_language.specs.Acts.{told};
-ghost use Rattle.rules.specs.Calls.{refusal, read_answer, wrote_answer};
+ghost use Rattle.rules.specs.Calls.{read_answer, wrote_answer, refused as refused_call};
 ghost use Rattle.rules.specs.Power.{powered_up};
 ghost use Rattle.rules.specs.Targets.{placed};
 ghost use Rattle.card.specs.Modules.{state_of, on_module, Stays};
-ghost use Rattle.bench.specs.Jobs.{line_given, line_left};
+ghost use Rattle.language.specs.declared.dialect.Dialect.TheVariants.{Cards};
 ghost use Rattle.bench.specs.Cards.{call_answer, performed_card, answered, totals_after, card_after};
 
-use crate::job::{judgement_answer, said_of};
+use crate::stage::Stage;
 use crate::store_job::{StoreJob, content_answer, struck_answer};
-use answers::{Answer, Totals};
+use answers::{Answer, Refused, Totals};
 use card::{Module, Placement, Refusal, Treatment, WordRead};
-use card_language::{Act, Expected, Wrong, parse_line};
 use codes::{Code, pack};
+use language::{Act, Dialect, Expected};
+use std::convert::Infallible;
+use std::ops::ControlFlow;
 use stores::Bench;
 
 // It means its card, and what the job has come to so far.
@@ -32,43 +33,11 @@ impl<B: Bench, C: Code> CardJob<B, C> {
         ensures totals { result.totals ≡ job.totals }
     {
         let totals = job.totals;
-        let StoreJob {
-            code: _,
-            store,
-            totals: _,
-        } = job;
+        let StoreJob { store, .. } = job;
         CardJob {
             module: Module::new(placement, store, code),
             totals,
         }
-    }
-
-    // Carries a line out, or says what is wrong with it. A wrong line changes nothing.
-    pub fn run_line<'a>(&mut self, line: &'a [u8]) -> Result<Option<Answer>, Wrong<'a>>
-        ensures answers { told result ≡ line_given (λ a. answered (on_module performed_card C.Code.meaning B.Store.meaning self.old.module a)) None line.now }
-        ensures leaves { state_of B.Store.meaning self.new.module
-            ≡ line_left (state_of B.Store.meaning self.old.module) (on_module card_after C.Code.meaning B.Store.meaning self.old.module) line.now }
-        ensures totals { self.new.totals
-            ≡ line_left self.old.totals (λ a. totals_after self.old.totals (on_module performed_card C.Code.meaning B.Store.meaning self.old.module a)) line.now }
-        ensures stays { Stays B.Store.outside self.old.module self.new.module }
-    {
-        match parse_line(line)? {
-            None => Ok(None),
-            Some(act) => said_of(line, self.perform(act)),
-        }
-    }
-
-    fn perform(&mut self, act: Act) -> Result<Option<Answer>, Expected>
-        ensures answers { result ≡ answered (on_module performed_card C.Code.meaning B.Store.meaning self.old.module act) }
-        ensures leaves { state_of B.Store.meaning self.new.module
-            ≡ on_module card_after C.Code.meaning B.Store.meaning self.old.module act }
-        ensures totals { self.new.totals
-            ≡ totals_after self.old.totals (on_module performed_card C.Code.meaning B.Store.meaning self.old.module act) }
-        ensures stays { Stays B.Store.outside self.old.module self.new.module }
-    {
-        let answer = self.answer(act)?;
-        self.totals.count(answer);
-        Ok(Some(answer))
     }
 
     fn answer(&mut self, act: Act) -> Result<Answer, Expected>
@@ -79,11 +48,13 @@ impl<B: Bench, C: Code> CardJob<B, C> {
         ensures stays { Stays B.Store.outside self.old.module self.new.module }
     {
         match act {
-            Act::Code(_) | Act::Store(_) | Act::Place { .. } => Err(Expected::HeadOnce),
+            Act::Code(_) | Act::Store(_) | Act::Place(_) => {
+                Err(Expected::HeadOnce(Dialect::Cards))
+            },
             Act::Checks { word } => Ok(Answer::Checks {
                 checks: C::checks(word),
             }),
-            Act::Judge { data, checks } => Ok(judgement_answer(C::judge(pack(data, checks)))),
+            Act::Judge { data, checks } => Ok(Answer::Judged(C::judge(pack(data, checks)))),
             Act::Dati { address } => Ok(word_answer(self.module.dati(address))),
             Act::Datip { address } => Ok(word_answer(self.module.datip(address))),
             Act::Dato { address, word } => Ok(treated_answer(self.module.dato(address, word))),
@@ -94,44 +65,43 @@ impl<B: Bench, C: Code> CardJob<B, C> {
     }
 }
 
+// No line ends it.
+impl<B: Bench, C: Code> Stage for CardJob<B, C> {
+    type End = Infallible;
+
+    ghost spoken = { λ _. Cards };
+
+    ghost gives = { λ job a. answered (on_module performed_card C.Code.meaning B.Store.meaning job.module a) };
+
+    ghost Leaves = { λ old a new. (state_of B.Store.meaning new.module ≡ on_module card_after C.Code.meaning B.Store.meaning old.module a)
+        × (new.totals ≡ totals_after old.totals (on_module performed_card C.Code.meaning B.Store.meaning old.module a))
+        × Stays B.Store.outside old.module new.module };
+
+    fn dialect(&self) -> Dialect {
+        Dialect::Cards
+    }
+
+    fn perform(&mut self, act: Act) -> Result<ControlFlow<Infallible, Option<Answer>>, Expected> {
+        let answer = self.answer(act)?;
+        self.totals.count(answer);
+        Ok(ControlFlow::Continue(Some(answer)))
+    }
+}
+
 fn word_answer(given: Result<WordRead, Refusal>) -> Answer
     ensures { result ≡ call_answer (read_answer given) }
 {
-    match given {
-        Ok(
-            WordRead {
-                word,
-                treatment,
-                parity,
-            },
-        ) => Answer::Word {
-            word,
-            treatment,
-            parity,
-        },
-        Err(refusal) => refusal_answer(refusal),
-    }
+    given.map_or_else(refused, Answer::Word)
 }
 
 fn treated_answer(given: Result<Treatment, Refusal>) -> Answer
     ensures { result ≡ call_answer (wrote_answer given) }
 {
-    match given {
-        Ok(treatment) => Answer::Treated { treatment },
-        Err(refusal) => refusal_answer(refusal),
-    }
+    given.map_or_else(refused, |treatment| Answer::Treated { treatment })
 }
 
-fn refusal_answer(given: Refusal) -> Answer
-    ensures { result ≡ call_answer (refusal given) }
+fn refused(refusal: Refusal) -> Answer
+    ensures { result ≡ call_answer (refused_call refusal) }
 {
-    let number = given.number();
-    match given {
-        Refusal::Store { address, fault } => Answer::StoreRefused {
-            number,
-            address,
-            fault,
-        },
-        _ => Answer::Refused { number },
-    }
+    Answer::Refused(Refused::Call(refusal))
 }

@@ -1,68 +1,31 @@
-// A job as it runs, up to its store: the code that its lines have chosen, and what each line answers.
+// A job as it runs, up to its store: the code that its lines have chosen, and what each act gives.
 ghost use Rattle.std.specs.Prelude.{◌≡◌, None};
-ghost use Rattle.bench.specs.declared.job.Next.TheVariants.{Answered};
 ghost use Rattle.std.specs.Option.{ok_or};
-ghost use Rattle.card_language.specs.declared.wrong.Expected.TheVariants.{CodeFirst};
-ghost use Rattle.card_language.specs.Acts.{told};
+ghost use Rattle.language.specs.declared.wrong.Expected.TheVariants.{CodeFirst};
 ghost use Rattle.codes.specs.Names.{coding_of};
-ghost use Rattle.bench.specs.Jobs.{said_of, line_given, line_left, checks_answer, judged_answer, judgement_answer, performed, chosen_after};
+ghost use Rattle.bench.specs.Jobs.{checks_answer, judged_answer, performed, chosen_after};
 
+use crate::stage::Stage;
 use answers::Answer;
-use card_language::{Act, Expected, Make, Wrong, parse_line};
-use codes::{CodeName, Judgement, pack};
-use lines::Words;
+use codes::{CodeName, pack};
+use language::{Act, Dialect, Expected, Make};
+use std::ops::ControlFlow;
 
-// It means the code that its lines have chosen, if any.
+// It means its dialect, and the code that its lines have chosen, if any.
 #[derive(Clone, Copy)]
 pub struct Job {
+    dialect: Dialect,
     code: Option<CodeName>,
 }
 
-// What a line at the head of a job gives.
-#[derive(Clone, Copy)]
-pub enum Next {
-    // An answer, or none.
-    Answered(Option<Answer>),
-    // The job goes on with this code, on a store of this make.
-    Store(CodeName, Make),
-}
-
 impl Job {
-    pub fn new() -> Job
-        ensures { result.code ≡ None }
+    pub fn new(dialect: Dialect) -> Job
+        ensures dialect { result.dialect ≡ dialect }
+        ensures code { result.code ≡ None }
     {
-        Job { code: None }
-    }
-
-    // Carries a line out, or says what is wrong with it. A wrong line changes nothing.
-    pub fn run_line<'a>(&mut self, line: &'a [u8]) -> Result<Next, Wrong<'a>>
-        ensures answers { told result ≡ line_given (performed self.old.code) (Answered None) line.now }
-        ensures leaves { self.new.code ≡ line_left self.old.code (chosen_after self.old.code) line.now }
-    {
-        match parse_line(line)? {
-            None => Ok(Next::Answered(None)),
-            Some(act) => said_of(line, self.perform(act)),
-        }
-    }
-
-    fn perform(&mut self, act: Act) -> Result<Next, Expected>
-        ensures answers { result ≡ performed self.old.code act }
-        ensures leaves { self.new.code ≡ chosen_after self.old.code act }
-    {
-        match act {
-            Act::Code(name) => {
-                self.code = Some(name);
-                Ok(Next::Answered(None))
-            }
-            Act::Store(make) => Ok(Next::Store(self.chosen()?, make)),
-            Act::Checks { word } => Ok(Next::Answered(Some(checks_answer(self.chosen()?, word)))),
-            Act::Judge { data, checks } => {
-                Ok(Next::Answered(Some(judged_answer(self.chosen()?, data, checks))))
-            }
-            Act::Place { .. } | Act::Strike { .. } | Act::Cell { .. } => Err(Expected::StoreFirst),
-            Act::Dati { .. } | Act::Datip { .. } | Act::Dato { .. } | Act::Datob { .. } => {
-                Err(Expected::PlaceFirst)
-            }
+        Job {
+            dialect,
+            code: None,
         }
     }
 
@@ -73,16 +36,43 @@ impl Job {
     }
 }
 
-// A mistake is said of the line's first word.
-pub(crate) fn said_of<'a, T>(line: &'a [u8], given: Result<T, Expected>) -> Result<T, Wrong<'a>>
-    ensures { told result ≡ said_of line.now given }
-{
-    match given {
-        Ok(x) => Ok(x),
-        Err(expected) => Err(Wrong {
-            expected,
-            found: Words::new(line).next_word(),
-        }),
+// It ends with the line that asks for a store, which the job goes on with, under the code.
+impl Stage for Job {
+    type End = (CodeName, Make);
+
+    ghost spoken = { λ job. job.dialect };
+
+    ghost gives = { λ job a. performed job.code a };
+
+    ghost Leaves = { λ old a new. (new.code ≡ chosen_after old.code a) × (new.dialect ≡ old.dialect) };
+
+    fn dialect(&self) -> Dialect {
+        self.dialect
+    }
+
+    fn perform(
+        &mut self,
+        act: Act,
+    ) -> Result<ControlFlow<(CodeName, Make), Option<Answer>>, Expected> {
+        match act {
+            Act::Code(name) => {
+                self.code = Some(name);
+                Ok(ControlFlow::Continue(None))
+            }
+            Act::Store(make) => Ok(ControlFlow::Break((self.chosen()?, make))),
+            Act::Checks { word } => {
+                let answer = checks_answer(self.chosen()?, word);
+                Ok(ControlFlow::Continue(Some(answer)))
+            }
+            Act::Judge { data, checks } => {
+                let answer = judged_answer(self.chosen()?, data, checks);
+                Ok(ControlFlow::Continue(Some(answer)))
+            }
+            Act::Place(_) | Act::Strike { .. } | Act::Cell { .. } => Err(Expected::StoreFirst),
+            Act::Dati { .. } | Act::Datip { .. } | Act::Dato { .. } | Act::Datob { .. } => {
+                Err(Expected::PlaceFirst)
+            }
+        }
     }
 }
 
@@ -97,20 +87,5 @@ pub(crate) fn checks_answer(code: CodeName, word: u16) -> Answer
 pub(crate) fn judged_answer(code: CodeName, data: u16, checks: u8) -> Answer
     ensures { result ≡ judged_answer (coding_of code) «data» checks }
 {
-    judgement_answer(code.judge(pack(data, checks)))
-}
-
-pub(crate) fn judgement_answer(judgement: Judgement) -> Answer
-    ensures { result ≡ judgement_answer judgement }
-{
-    let Judgement {
-        verdict,
-        word,
-        syndrome,
-    } = judgement;
-    Answer::Judgement {
-        verdict,
-        word,
-        syndrome,
-    }
+    Answer::Judged(code.judge(pack(data, checks)))
 }

@@ -3,8 +3,10 @@
 
 mod card_job;
 mod job;
+mod stage;
 mod store_job;
 
 pub use card_job::CardJob;
-pub use job::{Job, Next};
-pub use store_job::{StoreJob, StoreNext};
+pub use job::Job;
+pub use stage::Stage;
+pub use store_job::StoreJob;

@@ -8,6 +8,7 @@ use crate::module::Module;
 use codes::Code;
 use stores::{Bench, Fault};
 
+// What stays stands in each contract, since it relates before and after.
 impl<S: Bench, C: Code> Module<S, C> {
     // Inverts the bits of a cell that the mask names; the module takes no notice.
     pub fn upset(&mut self, cell: u32, mask: u32) -> Result<(), Fault>

@@ -8,6 +8,7 @@ use codes::{Code, Verdict, data_of};
 use rules::Look;
 use stores::{Fault, Store};
 
+// What stays stands in each contract, since it relates before and after.
 impl<S: Store, C: Code> Module<S, C> {
     // Fetches the cell of a word and examines it; a cell that is not fitted changes nothing.
     pub(crate) fn look(&mut self, word: u32) -> Result<Look, Fault>

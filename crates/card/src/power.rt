@@ -37,6 +37,7 @@ fn fill<S: Store>(store: &mut S, n: u32, content: Content)
     ensures leaves { S.Store.meaning store.new ≡ filled (S.Store.meaning store.old) n content.bits }
     ensures memory { S.Store.outside store.new ≡ S.Store.outside store.old }
 {
+    // Each turn writes to the store, so this is a loop and no chain.
     for cell in 0..n {
         let _ = store.write(cell, content.bits);
     }

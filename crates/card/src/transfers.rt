@@ -12,6 +12,7 @@ use codes::{Code, Verdict, stored_checks};
 use rules::{Refusal, Target, Treatment, WordRead, carry};
 use stores::{Fault, Store};
 
+// What stays stands in each contract: it relates before and after, so no invariant of the module can hold it.
 impl<S: Store, C: Code> Module<S, C> {
     // Reads the word, or the control word, at a bus address.
     #[tactic(auto, unfolding(rules::specs::Transfers::act))]

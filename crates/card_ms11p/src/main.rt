@@ -2,70 +2,18 @@
 #![tactic(auto)]
 
 mod example;
-mod output;
-mod reading;
-mod stop;
 
 use example::DEFAULT_JOB;
-use output::Output;
-use reading::Lines;
-use std::io::{BufReader, BufWriter, Write};
+use language::Dialect;
+use runner::Program;
 use std::process::ExitCode;
-use std::{env, fs};
-use stop::Stop;
 
-const USAGE: &str = "usage: card_ms11p [--echo] [JOB ..]
-Runs each job in order and prints one line for each act. A JOB is the name of a file, - for standard input,
-or --default for the job that the program brings along; without any, the job is read from standard input.
-  --echo   prints the lines of the job too, each before its answer
-  --help   prints this text
-";
-
+// Like the other program's, but for a name, a dialect and a job, which are data already.
 fn main(rt: HostRuntime) -> ExitCode {
-    match run(&rt) {
-        Ok(()) => ExitCode::SUCCESS,
-        Err(stop) => {
-            let _ = eprintln!(rt; "{stop}");
-            ExitCode::FAILURE
-        }
-    }
-}
-
-fn run(rt: &HostRuntime) -> Result<(), Stop> {
-    let heap = rt.alloc();
-    let mut out = Output::new(heap, BufWriter::new(heap, rt.stdout())?);
-    let mut jobs = Vec::new(heap);
-    for arg in env::args(rt)?.skip(1) {
-        match arg.as_str() {
-            "--help" => {
-                out.writer.write_all(USAGE.as_bytes())?;
-                return Ok(out.writer.flush()?);
-            }
-            "--echo" => out.echo = true,
-            _ => jobs.push(arg)?,
-        }
-    }
-    if jobs.is_empty() {
-        run_named(rt, &mut out, "-")?;
-    }
-    let several = jobs.len() > 1;
-    for name in jobs.iter() {
-        if several {
-            writeln!(out.writer, "== {name}")?;
-        }
-        run_named(rt, &mut out, name.as_str())?;
-    }
-    Ok(out.writer.flush()?)
-}
-
-fn run_named(rt: &HostRuntime, out: &mut Output, name: &str) -> Result<(), Stop> {
-    let heap = rt.alloc();
-    match name {
-        "-" => out.run_job(Lines::new(heap, "standard input", BufReader::new(heap, rt.stdin())?)),
-        "--default" => out.run_job(Lines::new(heap, name, DEFAULT_JOB)),
-        _ => match fs::open(rt, name) {
-            Ok(file) => out.run_job(Lines::new(heap, name, BufReader::new(heap, file)?)),
-            Err(error) => Err(Stop::unreadable(heap, name, error)),
-        },
-    }
+    let program = Program {
+        name: "card_ms11p",
+        dialect: Dialect::Cards,
+        default_job: DEFAULT_JOB,
+    };
+    program.run(&rt)
 }

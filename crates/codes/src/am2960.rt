@@ -59,6 +59,7 @@ fn fold_columns(columns: &[u8; 16], word: u16) -> u8
 }
 
 // The data bit whose column the syndrome is, as a mask; 0 where it is none.
+// A mask and no option: what follows inverts the bits that it names, and 0 names none.
 fn bit_named_by(columns: &[u8; 16], syndrome: u8) -> u16
     ensures { result ≡ named_bit columns.now syndrome }
 {

@@ -33,30 +33,20 @@ fn table() -> [Example; 12]
         Example::Checks(CodeName::Am2960, 512, 41),
         Example::Checks(CodeName::Parity, 0, 3),
         Example::Checks(CodeName::Parity, 1, 2),
-        Example::Judged(CodeName::Am2960, 512, 12, mended(0, 37)),
-        Example::Judged(CodeName::Am2960, 0, 13, mended(0, 1)),
-        Example::Judged(CodeName::Am2960, 3, 12, bad(3, 5)),
-        Example::Judged(CodeName::Am2960, 0, 0, bad(0, 12)),
-        Example::Judged(CodeName::Am2960, 3, 14, mended(3, 7)),
-        Example::Judged(CodeName::Parity, 1, 3, bad(1, 1)),
+        Example::Judged(CodeName::Am2960, 512, 12, judged(Verdict::Mended, 0, 37)),
+        Example::Judged(CodeName::Am2960, 0, 13, judged(Verdict::Mended, 0, 1)),
+        Example::Judged(CodeName::Am2960, 3, 12, judged(Verdict::Bad, 3, 5)),
+        Example::Judged(CodeName::Am2960, 0, 0, judged(Verdict::Bad, 0, 12)),
+        Example::Judged(CodeName::Am2960, 3, 14, judged(Verdict::Mended, 3, 7)),
+        Example::Judged(CodeName::Parity, 1, 3, judged(Verdict::Bad, 1, 1)),
     ]
 }
 
-fn mended(word: u16, syndrome: u8) -> Judgement
-    ensures { result ≡ judgement Verdict.Mended word syndrome }
+fn judged(verdict: Verdict, word: u16, syndrome: u8) -> Judgement
+    ensures { result ≡ judgement verdict word syndrome }
 {
     Judgement {
-        verdict: Verdict::Mended,
-        word,
-        syndrome,
-    }
-}
-
-fn bad(word: u16, syndrome: u8) -> Judgement
-    ensures { result ≡ judgement Verdict.Bad word syndrome }
-{
-    Judgement {
-        verdict: Verdict::Bad,
+        verdict,
         word,
         syndrome,
     }

@@ -13,6 +13,7 @@ pub enum CodeName {
     Parity,
 }
 
+// Two matches, since the methods of a code take no `self`: no value, boxed or lent, stands for either code.
 impl CodeName {
     pub fn checks(self, word: u16) -> u8
         ensures { result ≡ (coding_of self).checks word }

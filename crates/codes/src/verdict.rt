@@ -23,6 +23,7 @@ pub struct Judgement {
     pub syndrome: u8,
 }
 
+// By hand: a derived text has no contract.
 impl fmt::Display for Verdict {
     ghost output = { λ v. Some (verdict_text v) };
 
@@ -40,9 +41,6 @@ impl Judgement {
     pub(crate) fn sound(self) -> Option<u16>
         ensures { result ≡ if_sound self.verdict self.word }
     {
-        match self.verdict {
-            Verdict::Sound => Some(self.word),
-            _ => None,
-        }
+        (self.verdict == Verdict::Sound).then_some(self.word)
     }
 }

@@ -53,6 +53,7 @@ fn run(rt: &HostRuntime) -> anyhow::Result<()> {
     let seen = (0..64u8)
         .map(|syndrome| compare(printed_at(syndrome), syndrome))
         .collect::<Vec<Seen>>(rt.alloc())?;
+    // The place of what was seen is its syndrome.
     for (syndrome, one) in seen.iter().enumerate() {
         if *one == Seen::Differs {
             println!(rt; "syndrome {syndrome}: the code does not answer as the table says")?;

@@ -1,7 +1,8 @@
 -- Laws of the list of a line's banks. Assumes nothing.
-use Rattle.std.proofs.Common.{◌≡◌, ℕ, ◌+◌, ◌<◌, ◌≤◌, min, List, [], ◌∷◌, ◌++◌, length, take, set, replicate, Ok, Err, Result, sym, refl, ap, ◌∙◌, ⊎_elim, append_assoc, append-nil, arith}
-use Rattle.std.proofs.lemmas.List.{take_all, same_lists, places, length-set, get_or-set_same, take-append-le, length_push}
-use Rattle.std.proofs.lemmas.Bool.{cases_eq, cases_lt}
+use Rattle.std.proofs.Common.{◌≡◌, ℕ, ◌+◌, ◌<◌, ◌≤◌, List, [], ◌∷◌, ◌++◌, length, take, set, replicate, Some, Ok, Err, Result, sym, refl, ap, ◌∙◌, append_assoc, arith}
+use Rattle.std.proofs.lemmas.List.{same_lists, places, length-set, get_or-set_same, take-append-le, length_push}
+use Rattle.std.proofs.lemmas.Option.{none-some, same_Some}
+use Rattle.std.proofs.lemmas.Bool.{cases_eq}
 use Rattle.maps.specs.declared.bank.Bank.{Bank}
 use Rattle.language.specs.declared.make.BankList.{BankList}
 use Rattle.lines.specs.Lines.{first, others}
@@ -37,43 +38,25 @@ pub record Read (list : BankList) (rest all : List (List ℕ)) : Type 0 where
   pub lists : list ≡ listed seen
   pub follows : bank_list all ≡ and_then (banks_of (pairs rest)) (λ banks. Ok (listed (seen ++ banks)))
 
-pub all_read : {list : BankList} (rest all : List (List ℕ)) → rest ≡ [] → Read list rest all → Ok list ≡ bank_list all
-all_read rest all none read =
-    let done : bank_list all ≡ Ok (listed (read.seen ++ [])) = rw none at read.follows in
-    ap (λ l. Ok l) (read.lists ∙ ap listed (sym (append-nil read.seen))) ∙ sym done
-
-pairs_first : (ws : List (List ℕ)) → (length (first ws) ≡ 0 → ⊥) → pairs ws ≡ (first ws, first (others ws)) ∷ pairs (others (others ws))
-pairs_first [] some = absurd (some refl)
-pairs_first (v ∷ []) some = refl
-pairs_first (v ∷ w ∷ ws) some = refl
+pairs_first : (ws : List (List ℕ)) (v : List ℕ) → Some v ≡ first ws → pairs ws ≡ (v, first (others ws)) ∷ pairs (others (others ws))
+pairs_first [] v some = absurd (none-some v (sym some))
+pairs_first (w ∷ []) v some = rw (same_Some v w some) refl
+pairs_first (w ∷ x ∷ ws) v some = rw (same_Some v w some) refl
 
 -- a bank more after those that were seen is one more before those that follow
 regrouped : (seen : List Bank) (b : Bank) (r : Result (List Bank) Mistake) → and_then (and_then r (λ banks. Ok (b ∷ banks))) (λ banks. Ok (listed (seen ++ banks))) ≡ and_then r (λ banks. Ok (listed ((seen ++ b ∷ []) ++ banks)))
 regrouped seen b (Ok banks) = simp append_assoc
 regrouped seen b (Err m) = refl
 
-module _ {list : BankList} (rest all : List (List ℕ)) (some : length (first rest) ≡ 0 → ⊥) (read : Read list rest all) where
-  opened : bank_list all ≡ and_then (banks_of ((first rest, first (others rest)) ∷ pairs (others (others rest)))) (λ banks. Ok (listed (read.seen ++ banks)))
-  opened = rw (pairs_first rest some) at read.follows
+module _ {list : BankList} (rest all : List (List ℕ)) (v : List ℕ) (some : Some v ≡ first rest) (read : Read list rest all) where
+  opened : bank_list all ≡ and_then (banks_of ((v, first (others rest)) ∷ pairs (others (others rest)))) (λ banks. Ok (listed (read.seen ++ banks)))
+  opened = rw (pairs_first rest v some) at read.follows
 
-  pub no_length : (offset : ℕ) (m : Mistake) → Ok offset ≡ numbered most_number (first rest) → Err m ≡ numbered most_number (first (others rest)) → Err m ≡ bank_list all
+  pub no_length : (offset : ℕ) (m : Mistake) → Ok offset ≡ numbered most_number (Some v) → Err m ≡ numbered most_number (first (others rest)) → Err m ≡ bank_list all
   no_length offset m e f = sym (opened ∙ rw (← e, ← f))
 
-  pub one_more : (after : List (List ℕ)) (offset cells : ℕ) (longer : BankList) → after ≡ others (others rest) → Ok offset ≡ numbered most_number (first rest) → Ok cells ≡ numbered most_number (first (others rest)) → ((seen : List Bank) → list ≡ listed seen → longer ≡ listed (seen ++ bank offset cells ∷ [])) → Read longer after all
+  pub one_more : (after : List (List ℕ)) (offset cells : ℕ) (longer : BankList) → after ≡ others (others rest) → Ok offset ≡ numbered most_number (Some v) → Ok cells ≡ numbered most_number (first (others rest)) → ((seen : List Bank) → list ≡ listed seen → longer ≡ listed (seen ++ bank offset cells ∷ [])) → Read longer after all
   one_more after offset cells longer is e f pushed =
       let b = bank offset cells in
       let next = regrouped read.seen b (banks_of (pairs after)) in
       record { seen = read.seen ++ b ∷ []; lists = pushed read.seen read.lists; follows = opened ∙ rw (← e, ← f, ← is) next }
-
--- a turn takes a word or two
-pub fewer : (ws after : List (List ℕ)) → (length (first ws) ≡ 0 → ⊥) → after ≡ others (others ws) → length after < length ws
-fewer [] after some is = absurd (some refl)
-fewer (v ∷ []) after some is = omega (arith, ap length is)
-fewer (v ∷ w ∷ ws) after some is = omega (arith, ap length is)
-
--- a part that is cut to what there is
-pub take_within : (n most : ℕ) (banks : List Bank) → length banks ≡ most → take (min n most) banks ≡ take n banks
-take_within n most banks long = ⊎_elim
-    (λ few. let is : min n most ≡ n = omega arith in ap (λ (k : ℕ). take k banks) is)
-    (λ many. take_all (min n most) banks (omega arith) ∙ sym (take_all n banks (omega arith)))
-    (cases_lt n most)

@@ -1,21 +1,17 @@
-// The job language: a line as an act, what it answers under a code and on a store, and answers and mistakes as text.
+// The job language: a line as the act that it asks for, and what is wrong with a line as text.
 #![tactic(auto)]
 
 mod act;
-mod answer;
-mod job;
+mod dialect;
 mod make;
 mod parse;
 mod parts;
-mod store_job;
 mod store_line;
 mod wrong;
 
-pub use act::Act;
-pub use answer::Answer;
-pub use job::{Job, Next};
+pub use act::{Act, AskedPlacement};
+pub use dialect::Dialect;
 pub use lines::{Words, line_content, number};
-pub use make::{BankList, Make};
+pub use make::{AskedMap, BankList, Make};
 pub use parse::parse_line;
-pub use store_job::StoreJob;
 pub use wrong::{Expected, Wrong, wrong_text};

@@ -24,19 +24,34 @@ pub enum Make {
     // A bank map over a flat store.
     Map {
         cells: u32,
-        count: u32,
-        banks: BankList,
+        map: AskedMap,
     },
     // A pair of two stores, each that map over a split store.
     Banks {
         first: u32,
         second: u32,
-        count: u32,
-        banks: BankList,
+        map: AskedMap,
     },
 }
 
+// A bank map as a line asks for it; there may be none of this count and these banks.
+#[derive(Clone, Copy)]
+pub struct AskedMap {
+    pub count: u32,
+    pub banks: BankList,
+}
+
+impl AskedMap {
+    // The map, or its refusal.
+    pub fn to_map(&self) -> Result<BankMap, NoMap>
+        ensures { made_map result ≡ new_map self.now.count (take self.now.banks.used self.now.banks.banks) }
+    {
+        BankMap::new(self.count, self.banks.as_slice())
+    }
+}
+
 // The first banks of a line, in its order. The places that are not used hold empty banks.
+// The length stands beside the array since a line is read without memory of its own, and an act is copied.
 #[derive(Clone, Copy)]
 pub struct BankList {
     pub banks: [Bank; MOST_LISTED],
@@ -56,11 +71,10 @@ impl BankList {
         }
     }
 
-    // The map of this count and these banks, or its refusal.
-    pub fn to_map(&self, count: u32) -> Result<BankMap, NoMap>
-        ensures { made_map result ≡ new_map count (take self.now.used self.now.banks) }
+    fn as_slice(&self) -> &[Bank]
+        ensures { result.now ≡ take self.now.used self.now.banks }
     {
-        BankMap::new(count, &self.banks[0..self.used.min(MOST_LISTED)])
+        &self.banks[..self.used.min(MOST_LISTED)]
     }
 
     // One bank more at the end of those that are listed, which changes nothing where there is no room for it.

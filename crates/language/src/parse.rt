@@ -1,34 +1,38 @@
 // A line as the act that it asks for.
-ghost use Rattle.std.specs.Prelude.{◌≡◌};
+ghost use Rattle.std.specs.Prelude.{◌≡◌, option_map};
 ghost use Rattle.lines.specs.Lines.{left};
-ghost use Rattle.language.specs.Acts.{told, named, act_of, parsed};
-ghost use Rattle.language.specs.Acts.{code_act, checks_act, judge_act, strike_act, cell_act};
+ghost use Rattle.language.specs.Acts.{told, code_named, named, act_of, parsed};
+ghost use Rattle.language.specs.Acts.{code_act, place_act, checks_act, judge_act, card_act};
+ghost use Rattle.language.specs.Acts.{dati_act, datip_act, dato_act, datob_act, strike_act, cell_act};
 
-use crate::act::Act;
-use crate::parts::{MOST_NUMBER, bounded, ended, is};
+use crate::act::{Act, AskedPlacement};
+use crate::dialect::Dialect;
+use crate::parts::{MOST_NUMBER, end_of_line, is, one_number, three_numbers, two_numbers};
 use crate::store_line::store_act;
 use crate::wrong::{Expected, Wrong};
 use codes::CodeName;
 use lines::Words;
 
-const MOST_WORD: u32 = 65535;
+const MOST_WORD: u32 = u16::MAX as u32;
+
+const MOST_BYTE: u32 = u8::MAX as u32;
 
 const MOST_CHECKS: u32 = 63;
 
 // The act of a line, or none where the line has no word.
-pub fn parse_line<'a>(line: &'a [u8]) -> Result<Option<Act>, Wrong<'a>>
-    ensures { told result ≡ parsed line.now }
+pub fn parse_line<'a>(dialect: Dialect, line: &'a [u8]) -> Result<Option<Act>, Wrong<'a>>
+    ensures { told result ≡ parsed dialect line.now }
 {
     let mut words = Words::new(line);
-    let keyword = words.next_word();
-    if keyword.is_empty() {
-        return Ok(None);
+    match words.next() {
+        None => Ok(None),
+        Some(keyword) => Ok(Some(act_after(dialect, keyword, words)?)),
     }
-    Ok(Some(act_after(keyword, words)?))
 }
 
-fn act_after<'a>(keyword: &'a [u8], words: Words<'a>) -> Result<Act, Wrong<'a>>
-    ensures { told result ≡ act_of keyword.now (left words.entry) }
+// A chain of tests, and no match on byte strings: tried, and the proof then joins the bytes of each of eighteen arms by hand.
+fn act_after<'a>(dialect: Dialect, keyword: &'a [u8], words: Words<'a>) -> Result<Act, Wrong<'a>>
+    ensures { told result ≡ act_of dialect keyword.now (left words.entry) }
 {
     if is(keyword, "code") {
         code_act(words)
@@ -43,9 +47,34 @@ fn act_after<'a>(keyword: &'a [u8], words: Words<'a>) -> Result<Act, Wrong<'a>>
     } else if is(keyword, "cell") {
         cell_act(words)
     } else {
+        match dialect {
+            Dialect::Cards => card_act(keyword, words),
+            Dialect::Stores => Err(Wrong {
+                expected: Expected::Act(dialect),
+                found: Some(keyword),
+            }),
+        }
+    }
+}
+
+// The lines that place a card and call it; a chain of tests as above.
+fn card_act<'a>(keyword: &'a [u8], words: Words<'a>) -> Result<Act, Wrong<'a>>
+    ensures { told result ≡ card_act keyword.now (left words.entry) }
+{
+    if is(keyword, "place") {
+        place_act(words)
+    } else if is(keyword, "dati") {
+        dati_act(words)
+    } else if is(keyword, "datip") {
+        datip_act(words)
+    } else if is(keyword, "dato") {
+        dato_act(words)
+    } else if is(keyword, "datob") {
+        datob_act(words)
+    } else {
         Err(Wrong {
-            expected: Expected::Act,
-            found: keyword,
+            expected: Expected::Act(Dialect::Cards),
+            found: Some(keyword),
         })
     }
 }
@@ -53,51 +82,106 @@ fn act_after<'a>(keyword: &'a [u8], words: Words<'a>) -> Result<Act, Wrong<'a>>
 fn code_act<'a>(mut words: Words<'a>) -> Result<Act, Wrong<'a>>
     ensures { told result ≡ code_act (left words.entry) }
 {
-    let name = code_name(words.next_word())?;
-    ended(Act::Code(name), words)
+    let name = code_name(words.next())?;
+    end_of_line(words)?;
+    Ok(Act::Code(name))
 }
 
-fn checks_act<'a>(mut words: Words<'a>) -> Result<Act, Wrong<'a>>
+fn place_act<'a>(words: Words<'a>) -> Result<Act, Wrong<'a>>
+    ensures { told result ≡ place_act (left words.entry) }
+{
+    let (capacity, start, control) = three_numbers(words, MOST_NUMBER)?;
+    Ok(Act::Place(AskedPlacement {
+        capacity,
+        start,
+        control,
+    }))
+}
+
+fn checks_act<'a>(words: Words<'a>) -> Result<Act, Wrong<'a>>
     ensures { told result ≡ checks_act (left words.entry) }
 {
-    let word = bounded(words.next_word(), MOST_WORD)? as u16;
-    ended(Act::Checks { word }, words)
+    let word = one_number(words, MOST_WORD)? as u16;
+    Ok(Act::Checks { word })
 }
 
-fn judge_act<'a>(mut words: Words<'a>) -> Result<Act, Wrong<'a>>
+fn judge_act<'a>(words: Words<'a>) -> Result<Act, Wrong<'a>>
     ensures { told result ≡ judge_act (left words.entry) }
 {
-    let data = bounded(words.next_word(), MOST_WORD)? as u16;
-    let checks = bounded(words.next_word(), MOST_CHECKS)? as u8;
-    ended(Act::Judge { data, checks }, words)
+    let (data, checks) = two_numbers(words, MOST_WORD, MOST_CHECKS)?;
+    Ok(Act::Judge {
+        data: data as u16,
+        checks: checks as u8,
+    })
 }
 
-fn strike_act<'a>(mut words: Words<'a>) -> Result<Act, Wrong<'a>>
+fn dati_act<'a>(words: Words<'a>) -> Result<Act, Wrong<'a>>
+    ensures { told result ≡ dati_act (left words.entry) }
+{
+    let address = one_number(words, MOST_NUMBER)?;
+    Ok(Act::Dati { address })
+}
+
+fn datip_act<'a>(words: Words<'a>) -> Result<Act, Wrong<'a>>
+    ensures { told result ≡ datip_act (left words.entry) }
+{
+    let address = one_number(words, MOST_NUMBER)?;
+    Ok(Act::Datip { address })
+}
+
+// Like the next in shape alone: the numbers have other limits, and the act is another.
+fn dato_act<'a>(words: Words<'a>) -> Result<Act, Wrong<'a>>
+    ensures { told result ≡ dato_act (left words.entry) }
+{
+    let (address, word) = two_numbers(words, MOST_NUMBER, MOST_WORD)?;
+    Ok(Act::Dato {
+        address,
+        word: word as u16,
+    })
+}
+
+fn datob_act<'a>(words: Words<'a>) -> Result<Act, Wrong<'a>>
+    ensures { told result ≡ datob_act (left words.entry) }
+{
+    let (address, byte) = two_numbers(words, MOST_NUMBER, MOST_BYTE)?;
+    Ok(Act::Datob {
+        address,
+        byte: byte as u8,
+    })
+}
+
+fn strike_act<'a>(words: Words<'a>) -> Result<Act, Wrong<'a>>
     ensures { told result ≡ strike_act (left words.entry) }
 {
-    let cell = bounded(words.next_word(), MOST_NUMBER)?;
-    let mask = bounded(words.next_word(), MOST_NUMBER)?;
-    ended(Act::Strike { cell, mask }, words)
+    let (cell, mask) = two_numbers(words, MOST_NUMBER, MOST_NUMBER)?;
+    Ok(Act::Strike { cell, mask })
 }
 
-fn cell_act<'a>(mut words: Words<'a>) -> Result<Act, Wrong<'a>>
+fn cell_act<'a>(words: Words<'a>) -> Result<Act, Wrong<'a>>
     ensures { told result ≡ cell_act (left words.entry) }
 {
-    let cell = bounded(words.next_word(), MOST_NUMBER)?;
-    ended(Act::Cell { cell }, words)
+    let cell = one_number(words, MOST_NUMBER)?;
+    Ok(Act::Cell { cell })
 }
 
-fn code_name<'a>(word: &'a [u8]) -> Result<CodeName, Wrong<'a>>
-    ensures { told result ≡ named word.now }
+fn code_name<'a>(word: Option<&'a [u8]>) -> Result<CodeName, Wrong<'a>>
+    ensures { told result ≡ named (option_map (λ w. w.now) word.entry) }
+{
+    word.and_then(code_named).ok_or(Wrong {
+        expected: Expected::CodeName,
+        found: word,
+    })
+}
+
+// A chain of tests, as the acts.
+fn code_named(word: &[u8]) -> Option<CodeName>
+    ensures { result ≡ code_named word.now }
 {
     if is(word, "am2960") {
-        Ok(CodeName::Am2960)
+        Some(CodeName::Am2960)
     } else if is(word, "parity") {
-        Ok(CodeName::Parity)
+        Some(CodeName::Parity)
     } else {
-        Err(Wrong {
-            expected: Expected::CodeName,
-            found: word,
-        })
+        None
     }
 }

@@ -1,85 +1,125 @@
 // What is wrong with a line, and how that is said.
-ghost use Rattle.std.specs.Prelude.{◌≡◌, ◌<◌, ◌++◌, IfOk, Some, string_bytes, OnOk};
+ghost use Rattle.std.specs.Prelude.{◌≡◌, ◌<◌, IfOk, Some, string_bytes};
 ghost use Rattle.std.specs.Char.{digit_char};
-ghost use Rattle.language.specs.Texts.{expected_text, visible, escaped, found_text, wrong_text};
+ghost use Rattle.std.specs.Fmt.{WritesOnOk};
+ghost use Rattle.std.specs.List.{flat_map};
+ghost use Rattle.language.specs.Texts.{expected_text, visible, escaped, mistake_text, wrong_text};
 
+use crate::dialect::Dialect;
 use std::alloc::{AllocError, Global};
 use std::fmt;
 
 #[derive(Clone, Copy, PartialEq, Eq, Debug)]
 pub enum Expected {
-    Act,
+    // An act of the dialect.
+    Act(Dialect),
     CodeName,
     Make,
     Number { most: u32 },
     End,
     CodeFirst,
     StoreFirst,
-    HeadOnce,
+    PlaceFirst,
+    // The head of a job in the dialect.
+    HeadOnce(Dialect),
 }
 
-// What was expected, and the word that was found, which is empty where the line ended.
+// What was expected, and the word that was found, or none where the line ended.
 #[derive(Clone, Copy, PartialEq, Eq, Debug)]
 pub struct Wrong<'a> {
     pub expected: Expected,
-    pub found: &'a [u8],
+    pub found: Option<&'a [u8]>,
 }
 
+// By hand, as every text of this repository that a contract promises: a derived text has none.
 impl fmt::Display for Expected {
     ghost output = { λ e. Some (expected_text e) };
 
     fn fmt<W: fmt::Write>(&self, f: &mut fmt::Formatter<W>) -> fmt::Result {
         match *self {
-            Expected::Act => write!(f, "code, store, checks, judge, strike or cell"),
+            Expected::Act(Dialect::Stores) => {
+                write!(f, "code, store, checks, judge, strike or cell")
+            }
+            Expected::Act(Dialect::Cards) => write!(
+                f,
+                "code, store, place, checks, judge, dati, datip, dato, datob, strike or cell"
+            ),
             Expected::CodeName => write!(f, "am2960 or parity"),
             Expected::Make => write!(f, "flat, split, pair, map or banks"),
             Expected::Number { most } => write!(f, "a number at most {most}"),
             Expected::End => write!(f, "the end of the line"),
             Expected::CodeFirst => write!(f, "a code line first"),
             Expected::StoreFirst => write!(f, "a store line first"),
-            Expected::HeadOnce => write!(f, "code and store once each, in this order"),
+            Expected::PlaceFirst => write!(f, "a place line first"),
+            Expected::HeadOnce(Dialect::Stores) => {
+                write!(f, "code and store once each, in this order")
+            }
+            Expected::HeadOnce(Dialect::Cards) => write!(
+                f,
+                "code, store and place once each, in this order"
+            ),
         }
     }
 }
 
-// One line of text, without its end.
+// What was expected and what was found; by hand, as above.
+impl fmt::Display for Wrong<'_> {
+    ghost output = { λ w. Some (mistake_text w) };
+
+    fn fmt<W: fmt::Write>(&self, f: &mut fmt::Formatter<W>) -> fmt::Result {
+        let expected = self.expected;
+        match self.found {
+            None => write!(f, "expected {expected}, found the end of the line"),
+            Some(word) => {
+                let word = Escaped { word };
+                write!(f, "expected {expected}, found {word}")
+            }
+        }
+    }
+}
+
+// One line of text, without its end: a function, since it asks for memory and promises the whole line.
 pub fn wrong_text(heap: Global, line: u64, wrong: &Wrong) -> Result<String, AllocError>
     ensures { IfOk result (λ s. string_bytes s ≡ wrong_text line wrong.now) }
 {
-    let expected = wrong.expected;
-    let found = found_text(heap, wrong.found)?;
-    format!(in heap; "line {line}: expected {expected}, found {found}")
+    let wrong = *wrong;
+    format!(in heap; "line {line}: {wrong}")
 }
 
-fn found_text(heap: Global, found: &[u8]) -> Result<String, AllocError>
-    ensures { IfOk result (λ s. string_bytes s ≡ found_text found.now) }
-{
-    if found.is_empty() {
-        return String::from_str(heap, "the end of the line");
-    }
-    let mut text = String::new(heap);
-    for byte in found {
-        push_escaped(&mut text, *byte)?;
-    }
-    Ok(text)
+// A word as it is shown.
+#[derive(Clone, Copy)]
+struct Escaped<'a> {
+    word: &'a [u8],
 }
 
-fn push_escaped(text: &mut String, byte: u8) -> Result<(), AllocError>
-    ensures { OnOk result (string_bytes text.new ≡ string_bytes text.old ++ escaped byte) }
+impl fmt::Display for Escaped<'_> {
+    ghost output = { λ e. Some (flat_map escaped e.word.now) };
+
+    fn fmt<W: fmt::Write>(&self, f: &mut fmt::Formatter<W>) -> fmt::Result {
+        for byte in self.word {
+            write_escaped(f, *byte)?;
+        }
+        Ok(())
+    }
+}
+
+fn write_escaped<W: fmt::Write>(f: &mut fmt::Formatter<W>, byte: u8) -> fmt::Result
+    ensures { WritesOnOk W.write_str_gives f.old result (escaped byte) f.new }
 {
     if is_visible(byte) {
-        text.push(char::from(byte))
+        let shown = char::from(byte);
+        write!(f, "{shown}")
     } else {
-        text.push_str("\\x")?;
-        text.push(hex_digit(byte / 16))?;
-        text.push(hex_digit(byte % 16))
+        let high = hex_digit(byte / 16);
+        let low = hex_digit(byte % 16);
+        write!(f, "\\x{high}{low}")
     }
 }
 
 fn is_visible(byte: u8) -> bool
     ensures { result ≡ visible byte }
 {
-    byte >= 33 && byte <= 126 && byte != b'\\'
+    byte.is_ascii_graphic() && byte != b'\\'
 }
 
 fn hex_digit(digit: u8) -> char
@@ -87,9 +127,5 @@ fn hex_digit(digit: u8) -> char
     ensures value { result ≡ digit_char digit }
     ensures ascii { result < 128 }
 {
-    if digit < 10 {
-        char::from(b'0' + digit)
-    } else {
-        char::from(b'a' + (digit - 10))
-    }
+    char::from_digit(u32::from(digit), 16).unwrap()
 }

@@ -1,33 +1,21 @@
 -- Laws of a line's words. Assumes nothing.
-use Rattle.std.proofs.Common.{◌≡◌, ℕ, ◌+◌, ◌<◌, ◌≤◌, Bool, true, false, List, [], ◌∷◌, ◌++◌, length, get_or, take, drop, sym, refl, ap, ◌∙◌, append_assoc, append-nil, one-add, arith}
-use Rattle.std.specs.List.{prefix_len}
-use Rattle.std.proofs.lemmas.List.{take_more, take_all, drop_more, drop_all}
-use Rattle.std.proofs.lemmas.Bool.{eq-eqb, ne_eqb}
-use Rattle.lines.specs.Lines.{uncommented, blank, lengthened, pieces, nonempty, words, first, others, like}
+use Rattle.std.proofs.Common.{◌≡◌, ℕ, ◌<◌, ◌≤◌, Bool, true, false, not, List, [], ◌∷◌, length, take, drop, Some, None, position, sym, refl, ap, ◌∙◌, one-add, arith, inl, inr, ◌⊎◌, nat_lt, subst}
+use Rattle.std.specs.List.{position_or_len, before_first}
+use Rattle.std.proofs.lemmas.Bool.{cases_lt, cond_below, ltb-true}
+use Rattle.std.proofs.lemmas.Option.{cond_some, none-some, same_Some}
+use Rattle.lines.specs.Lines.{blank, lengthened, pieces, nonempty, words, first, others}
 
--- one byte more before the comment
-pub uncommented_more : (bs : List ℕ) (i : ℕ) → i < length bs → (get_or bs i 0 ≡ 35 → ⊥) → take i bs ++ uncommented (drop i bs) ≡ uncommented bs → take (i + 1) bs ++ uncommented (drop (i + 1) bs) ≡ uncommented bs
-uncommented_more bs i h ne e =
-    let step : uncommented (drop i bs) ≡ get_or bs i 0 ∷ uncommented (drop (i + 1) bs) = rw (drop_more bs i 0 h, ne_eqb (get_or bs i 0) 35 ne) in
-    ap (λ l. l ++ uncommented (drop (i + 1) bs)) (take_more bs i 0 h) ∙ append_assoc (take i bs) (get_or bs i 0 ∷ []) _ ∙ (rw step at e)
-
--- the comment begins at i
-pub uncommented_here : (bs : List ℕ) (i : ℕ) → i < length bs → get_or bs i 0 ≡ 35 → take i bs ++ uncommented (drop i bs) ≡ uncommented bs → take i bs ≡ uncommented bs
-uncommented_here bs i h is e =
-    let step : uncommented (drop i bs) ≡ [] = rw (drop_more bs i 0 h, eq-eqb (get_or bs i 0) 35 is) in
-    sym (append-nil (take i bs)) ∙ (rw step at e)
-
--- there is no comment
-pub uncommented_all : (bs : List ℕ) (i : ℕ) → length bs ≤ i → take i bs ++ uncommented (drop i bs) ≡ uncommented bs → bs ≡ uncommented bs
-uncommented_all bs i h e = sym (append-nil bs) ∙ (rw (take_all i bs h, drop_all i bs h) at e)
+-- a byte of a word
+abbrev pub other : ℕ → Bool
+other b = not (blank b)
 
 -- how many blanks stand at the front
 abbrev pub gap : List ℕ → ℕ
-gap bs = prefix_len (like true) bs
+gap bs = position_or_len other bs
 
 -- how many bytes stand before the first blank
 abbrev pub run : List ℕ → ℕ
-run bs = prefix_len (like false) bs
+run bs = position_or_len blank bs
 
 others_lengthened : (b : ℕ) (ws : List (List ℕ)) → others (lengthened b ws) ≡ others ws
 others_lengthened b [] = refl
@@ -48,41 +36,43 @@ first_piece (b ∷ bs) = by (blank b) refl (first_piece bs)
         let same = others_lengthened b (pieces bs) in
         record { ends = rw (e, one-add, same) (ap (lengthened b) more.ends); leaves = rw (e, one-add, same) more.leaves }
 
--- the word after the gap, and what follows it
-abbrev pub from_word : List ℕ → List ℕ
-from_word bs = drop (gap bs) bs
-
-abbrev pub next : List ℕ → List ℕ
-next bs = take (run (from_word bs)) (from_word bs)
-
-abbrev pub after : List ℕ → List ℕ
-after bs = drop (run (from_word bs)) (from_word bs)
-
--- a cursor that goes past the next word gives the first of its words and keeps the others
-pub record Step (bs : List ℕ) : Type 0 where
-  pub gives : next bs ≡ first (words bs)
-  pub leaves : words (after bs) ≡ others (words bs)
-
-pub step : (bs : List ℕ) → Step bs
-step [] = record { gives = refl; leaves = refl }
-step (b ∷ bs) = by (blank b) refl (step bs)
+-- blanks alone are no word
+no_words : (bs : List ℕ) → length bs ≤ gap bs → words bs ≡ []
+no_words [] h = refl
+no_words (b ∷ bs) h = by (blank b) refl (no_words bs) h
   where
-    by : (t : Bool) → blank b ≡ t → Step bs → Step (b ∷ bs)
-    by true e more = record { gives = simp (e, one-add) more.gives; leaves = simp (e, one-add) more.leaves }
-    by false e more =
+    by : (t : Bool) → blank b ≡ t → (length bs ≤ gap bs → words bs ≡ []) → length (b ∷ bs) ≤ gap (b ∷ bs) → words (b ∷ bs) ≡ []
+    by true e more h = rw e (more (omega (arith, (rw (e, one-add) at h))))
+    by false e more h = absurd (omega (arith, (rw e at h)))
+
+-- the words from a place on, which is that of the first byte of a word
+abbrev pub WordsFrom : List ℕ → ℕ → Type 0
+WordsFrom bs i = words bs ≡ before_first blank (drop i bs) ∷ words (drop (run (drop i bs)) (drop i bs))
+
+words_from_gap : (bs : List ℕ) → gap bs < length bs → WordsFrom bs (gap bs)
+words_from_gap [] h = absurd (omega arith)
+words_from_gap (b ∷ bs) h = by (blank b) refl (words_from_gap bs) h
+  where
+    by : (t : Bool) → blank b ≡ t → (gap bs < length bs → WordsFrom bs (gap bs)) → gap (b ∷ bs) < length (b ∷ bs) → WordsFrom (b ∷ bs) (gap (b ∷ bs))
+    by true e more h = simp (e, one-add) (more (omega (arith, (rw (e, one-add) at h))))
+    by false e more h =
         let piece = first_piece bs in
         let opened : nonempty (lengthened b (pieces bs)) ≡ (b ∷ take (run bs) bs) ∷ words (drop (run bs) bs) = ap (λ ps. nonempty (lengthened b ps)) piece.ends ∙ ap (λ ws. (b ∷ take (run bs) bs) ∷ ws) piece.leaves in
-        record { gives = simp (e, one-add) (sym (ap first opened)); leaves = simp (e, one-add) (sym (ap others opened)) }
+        simp (e, one-add) opened
 
--- no word is empty
-first_nonempty : (ws : List (List ℕ)) → length (first (nonempty ws)) ≡ 0 → nonempty ws ≡ []
-first_nonempty [] e = refl
-first_nonempty ([] ∷ ws) e = first_nonempty ws e
-first_nonempty ((b ∷ w) ∷ ws) e = absurd (omega arith)
+pub no_word : (bs : List ℕ) → position other bs ≡ None → words bs ≡ []
+no_word bs none = by (cases_lt (gap bs) (length bs))
+  where
+    by : (gap bs < length bs) ⊎ (length bs ≤ gap bs) → words bs ≡ []
+    by (inl h) = absurd (none-some (gap bs) (sym none ∙ sym (cond_below (gap bs) (length bs) (Some (gap bs)) None h)))
+    by (inr h) = no_words bs h
 
-pub no_words : (bs : List ℕ) → length (first (words bs)) ≡ 0 → words bs ≡ []
-no_words bs e = first_nonempty (pieces bs) e
+pub words_from : (bs : List ℕ) (i : ℕ) → position other bs ≡ Some i → WordsFrom bs i
+words_from bs i some =
+    let found = cond_some (nat_lt (gap bs) (length bs)) (gap bs) i some in
+    subst (WordsFrom bs) found.1 (words_from_gap bs (ltb-true (gap bs) (length bs) found.0))
 
-pub some_word : (ws : List (List ℕ)) → (length (first ws) ≡ 0 → ⊥) → ws ≡ first ws ∷ others ws
-some_word [] some = absurd (some refl)
-some_word (w ∷ ws) some = refl
+-- words by the first and the others
+pub by_first : (ws rest : List (List ℕ)) (v : List ℕ) → Some v ≡ first ws → rest ≡ others ws → ws ≡ v ∷ rest
+by_first [] rest v some follows = absurd (none-some v (sym some))
+by_first (w ∷ ws) rest v some follows = λ i. sym (same_Some v w some) i ∷ sym follows i

@@ -1,22 +1,16 @@
 -- Laws of the number that digits write. Assumes nothing.
-use Rattle.std.proofs.Common.{◌≡◌, ℕ, suc, ◌+◌, ◌-◌, ◌*◌, ◌^◌, ◌<◌, ◌≤◌, Bool, true, false, cond, List, [], ◌∷◌, ◌++◌, length, get_or, take, drop, Some, None, codes, sym, refl, ap, ◌∙◌, subst, mul_assoc, add-mul, mul-le-mul_left, arith}
-use native.Mathlib.Nat.{pow-zero, pow-succ', one-le-pow}
-use Rattle.std.proofs.lemmas.List.{drop_more, drop_all, take-append-drop}
-use Rattle.std.proofs.lemmas.Bool.{lt-leb, le-leb}
+use Rattle.std.proofs.Common.{◌≡◌, ℕ, suc, ◌+◌, ◌-◌, ◌*◌, ◌^◌, ◌<◌, ◌≤◌, Bool, true, false, cond, List, [], ◌∷◌, length, get_or, drop, Some, None, refl, ◌∙◌, subst, mul_assoc, add-mul, mul-le-mul_left, arith}
+use native.Mathlib.Nat.{pow-succ', one-le-pow}
+use Rattle.std.proofs.lemmas.List.{drop_more}
+use Rattle.std.proofs.lemmas.Bool.{lt-leb}
 use Rattle.std.proofs.lemmas.Bool.Decides.{nat_tests}
-use Rattle.std.proofs.lemmas.Slice.Eq.{bytes_eq-Decides}
-use Rattle.std.specs.Str.{bytes_eq}
-use Rattle.lines.specs.Numbers.{digit, digits, value, numeral, written, at_most}
+use Rattle.lines.specs.Numbers.{digit, digits, value, numeral, at_most}
 
 -- the front of ds gave sum, which is in bounds, and rest is left
 pub record Summed (base most sum : ℕ) (rest ds : List ℕ) : Type 0 where
   pub within : sum ≤ most
   pub checked : digits base ds ≡ digits base rest
   pub valued : value base ds ≡ sum * base ^ length rest + value base rest
-
-refused_other : (base most : ℕ) (ds : List ℕ) → digits base ds ≡ false → None ≡ at_most most (numeral base ds)
-refused_other base most [] e = refl
-refused_other base most (b ∷ bs) e = rw e
 
 refused_large : (base most : ℕ) (ds : List ℕ) → most < value base ds → None ≡ at_most most (numeral base ds)
 refused_large base most [] h = refl
@@ -25,10 +19,6 @@ refused_large base most (b ∷ bs) h = by (digits base (b ∷ bs))
     by : (t : Bool) → None ≡ at_most most (cond t (Some (value base (b ∷ bs))) None)
     by true = rw (lt-leb _ most h)
     by false = refl
-
-granted : (base most : ℕ) (ds : List ℕ) → 0 < length ds → digits base ds ≡ true → value base ds ≤ most → Some (value base ds) ≡ at_most most (numeral base ds)
-granted base most [] some e h = absurd (omega arith)
-granted base most (b ∷ bs) some e h = rw (e, le-leb _ most h)
 
 -- the value of what is read and what is left, before and after a digit d
 carried : (base sum d n v : ℕ) → sum * base ^ suc n + (d * base ^ n + v) ≡ (sum * base + d) * base ^ n + v
@@ -44,9 +34,6 @@ module _ {base most sum : ℕ} {ds : List ℕ} {i : ℕ} (h : i < length ds) (fr
   grown : value base ds ≡ (sum * base + (get_or ds i 0 - 48)) * base ^ length (drop (i + 1) ds) + value base (drop (i + 1) ds)
   grown = opened.valued ∙ carried base sum (get_or ds i 0 - 48) (length (drop (i + 1) ds)) (value base (drop (i + 1) ds))
 
-  pub no_digit : digit base (get_or ds i 0) ≡ false → None ≡ at_most most (numeral base ds)
-  no_digit e = refused_other base most ds (opened.checked ∙ rw e)
-
   pub too_large : digit base (get_or ds i 0) ≡ true → most < sum * base + (get_or ds i 0 - 48) → None ≡ at_most most (numeral base ds)
   too_large e large =
       let weight : 1 ≤ base ^ length (drop (i + 1) ds) = one-le-pow _ _ (digit_base base (get_or ds i 0) e) in
@@ -54,20 +41,3 @@ module _ {base most sum : ℕ} {ds : List ℕ} {i : ℕ} (h : i < length ds) (fr
 
   pub one_more : digit base (get_or ds i 0) ≡ true → sum * base + (get_or ds i 0 - 48) ≤ most → Summed base most (sum * base + (get_or ds i 0 - 48)) (drop (i + 1) ds) ds
   one_more e le = record { within = le; checked = opened.checked ∙ rw e; valued = grown }
-
--- all of the digits are read
-pub all_read : {base most sum : ℕ} {ds : List ℕ} (i : ℕ) → length ds ≤ i → 0 < length ds → Summed base most sum (drop i ds) ds → Some sum ≡ at_most most (numeral base ds)
-all_read {base} {most} {sum} {ds} i h some front =
-    let done = subst (λ l. Summed base most sum l ds) (drop_all i ds h) front in
-    let is : value base ds ≡ sum = done.valued ∙ simp pow-zero (omega arith) in
-    ap (λ n. Some n) (sym is) ∙ granted base most ds some done.checked (omega (arith, done.within, is))
-
-pub written_octal : (w ds : List ℕ) → w ≡ codes "0o" ++ ds → written w ≡ numeral 8 ds
-written_octal w ds e = rw e
-
-pub written_decimal : (w : List ℕ) → ((ds : List ℕ) → w ≡ codes "0o" ++ ds → ⊥) → written w ≡ numeral 10 w
-written_decimal w other = by (bytes_eq (take 2 w) (codes "0o")) refl
-  where
-    by : (t : Bool) → bytes_eq (take 2 w) (codes "0o") ≡ t → cond t (numeral 8 (drop 2 w)) (numeral 10 w) ≡ numeral 10 w
-    by true e = absurd (other (drop 2 w) (sym (take-append-drop 2 w) ∙ ap (λ l. l ++ drop 2 w) ((bytes_eq-Decides _ _).0 e)))
-    by false e = refl

@@ -1,6 +1,7 @@
 -- A line of bytes as its words. Assumes nothing.
-use Rattle.std.specs.Prelude.{ℕ, ◌-◌, Bool, cond, ◌||◌, List, [], ◌∷◌, length, take, ◌==◌, slice_index}
-use Rattle.std.specs.Bool.{beq}
+use Rattle.std.specs.Prelude.{ℕ, ◌-◌, Bool, cond, ◌||◌, List, [], ◌∷◌, length, take, ◌==◌, slice_index, Option, Some, None, ◌≡◌, option_map}
+use Rattle.std.specs.Borrow.{Bor}
+use Rattle.std.specs.List.{before_first}
 use Rattle.lines.specs.declared.words.Words.{Words}
 
 -- how many bytes end a line: a line feed, or a carriage return and a line feed; the last line of a text may have neither
@@ -13,8 +14,7 @@ without_end bs = take (length bs - end_length bs) bs
 
 -- what stands before the first `#`, which is 35
 abbrev pub uncommented : List ℕ → List ℕ
-uncommented [] = []
-uncommented (b ∷ bs) = cond (b == 35) [] (b ∷ uncommented bs)
+uncommented bs = before_first (λ b. b == 35) bs
 
 -- a space, which is 32, or a tab, which is 9
 abbrev pub blank : ℕ → Bool
@@ -40,10 +40,10 @@ nonempty ((b ∷ w) ∷ ws) = (b ∷ w) ∷ nonempty ws
 abbrev pub words : List ℕ → List (List ℕ)
 words bs = nonempty (pieces bs)
 
--- the first word, or the empty one where there is none
-abbrev pub first : List (List ℕ) → List ℕ
-first [] = []
-first (w ∷ ws) = w
+-- the first word, if there is one
+abbrev pub first : List (List ℕ) → Option (List ℕ)
+first [] = None
+first (w ∷ ws) = Some w
 
 -- the words after the first
 abbrev pub others : List (List ℕ) → List (List ℕ)
@@ -54,6 +54,7 @@ others (w ∷ ws) = ws
 abbrev pub left : Words → List (List ℕ)
 left c = words c.rest.now
 
--- a byte that is blank where t is true, and one that is not where t is false
-abbrev pub like : Bool → ℕ → Bool
-like t b = beq (blank b) t
+-- a cursor gave the first of the words that were left, if there was one, and goes on with the others
+pub record GivesWord (before : Words) (given : Option (Bor (List ℕ))) (after : Words) : Type 0 where
+  pub word : option_map (λ w. w.now) given ≡ first (left before)
+  pub rest : left after ≡ others (left before)

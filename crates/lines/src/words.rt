@@ -1,7 +1,8 @@
 // A cursor over the words of a line.
-ghost use Rattle.std.specs.Prelude.{◌≡◌};
-ghost use Rattle.std.specs.List.{prefix_len};
-ghost use Rattle.lines.specs.Lines.{blank, like, uncommented, words, first, others, left};
+ghost use Rattle.std.specs.Prelude.{◌≡◌, not, ◌==◌, position, drop};
+ghost use Rattle.std.specs.List.{position_or_len, before_first};
+ghost use Rattle.std.specs.Iterator.{item_count};
+ghost use Rattle.lines.specs.Lines.{blank, uncommented, words, left, GivesWord};
 
 // What begins a comment.
 const COMMENT: u8 = b'#';
@@ -17,41 +18,55 @@ impl<'a> Words<'a> {
     pub fn new(line: &'a [u8]) -> Words<'a>
         ensures { left result ≡ words (uncommented line.now) }
     {
-        for (i, byte) in line.iter().enumerate() {
-            if *byte == COMMENT {
-                return Words { rest: &line[0..i] };
-            }
-        }
-        Words { rest: line }
+        let end = first_comment(line).unwrap_or(line.len());
+        Words { rest: &line[..end] }
     }
+}
 
-    // The next word, past which the cursor goes, or the empty slice where no word is left.
-    pub fn next_word(&mut self) -> &'a [u8]
-        ensures word { result.now ≡ first (left self.old) }
-        ensures after { left self.new ≡ others (left self.old) }
-    {
-        let rest = self.rest;
-        let (_, from_word) = rest.split_at(run_length(rest, true));
-        let (word, after) = from_word.split_at(run_length(from_word, false));
+// It gives the words in order.
+impl<'a> Iterator for Words<'a> {
+    type Item = &'a [u8];
+
+    ghost next_gives = { GivesWord };
+
+    ghost remaining = { item_count left };
+
+    fn next(&mut self) -> Option<&'a [u8]> {
+        let start = first_of_word(self.rest)?;
+        let (word, after) = split_word(&self.rest[start..]);
         self.rest = after;
-        word
+        Some(word)
     }
+}
+
+fn first_comment(line: &[u8]) -> Option<usize>
+    ensures { result ≡ position (λ b. b == 35) line.now }
+{
+    line.iter().position(|b| *b == COMMENT)
+}
+
+// The bytes before the first blank, and the others.
+fn split_word(bytes: &[u8]) -> (&[u8], &[u8])
+    ensures word { result.0.now ≡ before_first blank bytes.now }
+    ensures others { result.1.now ≡ drop (position_or_len blank bytes.now) bytes.now }
+{
+    bytes.split_at(first_blank(bytes).unwrap_or(bytes.len()))
+}
+
+fn first_blank(bytes: &[u8]) -> Option<usize>
+    ensures { result ≡ position blank bytes.now }
+{
+    bytes.iter().position(|b| is_blank(*b))
+}
+
+fn first_of_word(bytes: &[u8]) -> Option<usize>
+    ensures { result ≡ position (λ b. not (blank b)) bytes.now }
+{
+    bytes.iter().position(|b| !is_blank(*b))
 }
 
 fn is_blank(byte: u8) -> bool
     ensures { result ≡ blank byte }
 {
     byte == b' ' || byte == b'\t'
-}
-
-// How many bytes at the front are blank, or how many are not.
-fn run_length(bytes: &[u8], blanks: bool) -> usize
-    ensures { result ≡ prefix_len (like blanks) bytes.now }
-{
-    for (i, byte) in bytes.iter().enumerate() {
-        if is_blank(*byte) != blanks {
-            return i;
-        }
-    }
-    bytes.len()
 }

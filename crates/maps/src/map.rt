@@ -63,6 +63,7 @@ impl<S: Store> Store for Map<'_, S> {
     }
 }
 
+// Like a write but for the call that is passed on: a closure for that call would want a contract longer than the three lines.
 impl<S: Bench> Bench for Map<'_, S> {
     fn upset(&mut self, cell: u32, mask: u32) -> Result<(), Fault> {
         self.test_write(cell, mask)?;

@@ -20,28 +20,28 @@ pub data Answer : Type 0 where
   read : (word : ℕ) → Verdict → (parity : Bool) → Answer
   -- DATO, DATOB: the treatment
   wrote : Verdict → Answer
-  -- a refusal by its number; one that carries a store's fault has it with the bus address as given
-  refused : (number : ℕ) → Option (ℕ × Fault) → Answer
+  -- a refusal
+  refused : Refusal → Answer
 
--- each refusal by its number and what it carries
-abbrev pub refusal : Refusal → Answer
-refusal PastBus = refused 5 None
-refusal NotOwned = refused 6 None
-refusal ControlByte = refused 7 None
-refusal (Store address f) = refused 8 (Some (address, f))
+-- each refusal by its number and what it carries: a store's fault, with the bus address as given
+abbrev pub refusal_says : Refusal → ℕ × Option (ℕ × Fault)
+refusal_says PastBus = (5, None)
+refusal_says NotOwned = (6, None)
+refusal_says ControlByte = (7, None)
+refusal_says (Store address f) = (8, Some (address, f))
 
 -- its number alone
 abbrev pub refusal_number : Refusal → ℕ
-refusal_number r = elim (refusal r) [ read word t parity ↦ 0 | wrote t ↦ 0 | refused number carried ↦ number ]
+refusal_number r = (refusal_says r).0
 
 -- the answers of the calls that read, and of those that write
 abbrev pub read_answer : Result WordRead Refusal → Answer
 read_answer (Ok r) = read r.word r.treatment r.parity
-read_answer (Err r) = refusal r
+read_answer (Err r) = refused r
 
 abbrev pub wrote_answer : Result Verdict Refusal → Answer
 wrote_answer (Ok treated) = wrote treated
-wrote_answer (Err r) = refusal r
+wrote_answer (Err r) = refused r
 
 -- a store's answer, with its fault as the refusal of a call to that address
 abbrev pub carried : {T : Type 0} → ℕ → Result T Fault → Result T Refusal

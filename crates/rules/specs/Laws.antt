@@ -14,7 +14,7 @@ use Rattle.rules.specs.Transfers.{act}
 abbrev pub is_refused : Answer → Bool
 is_refused (read word treatment parity) = false
 is_refused (wrote treatment) = false
-is_refused (refused number carried) = true
+is_refused (refused r) = true
 
 -- the call goes to the cell of that word
 abbrev pub is_word : ℕ → Result Target Refusal → Bool

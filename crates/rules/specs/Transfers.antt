@@ -12,7 +12,7 @@ use Rattle.rules.specs.declared.placement.make.Target.TheVariants.{Word, Control
 use Rattle.rules.specs.declared.refusal.Refusal.{Refusal}
 use Rattle.rules.specs.declared.refusal.Refusal.TheVariants.{ControlByte, Store}
 use Rattle.rules.specs.Targets.{Placed, block_of, target_of}
-use Rattle.rules.specs.Calls.{Call, dati, datip, dato, datob, Answer, read, wrote, refusal}
+use Rattle.rules.specs.Calls.{Call, dati, datip, dato, datob, Answer, read, wrote, refused}
 use Rattle.rules.specs.Control.{parity_enable, on, guarded, treatment, is_bad}
 use Rattle.rules.specs.Registers.{examined_registers, latch_loaded, checks_latched, shown, control_written}
 use Rattle.rules.specs.Tallies.{tallied_at}
@@ -25,7 +25,7 @@ pub record Done : Type 0 where
 
 -- a refusal changes nothing
 abbrev pub refusing : State → Refusal → Done
-refusing s r = record { answer = refusal r; after = s }
+refusing s r = record { answer = refused r; after = s }
 
 -- a word with one of its bytes put in: the high one, or the low one
 abbrev pub merged : Bool → ℕ → ℕ → ℕ

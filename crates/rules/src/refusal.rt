@@ -18,7 +18,7 @@ pub enum Refusal {
 }
 
 impl Refusal {
-    // 5, 6, 7 or 8.
+    // 5, 6, 7 or 8; by a match, since a variant that holds values cannot be numbered where it is declared.
     pub fn number(self) -> u8
         ensures { result ≡ refusal_number self }
     {

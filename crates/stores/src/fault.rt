@@ -33,6 +33,7 @@ pub struct Fault {
     pub cell: u32,
 }
 
+// By hand: a derived text has no contract.
 impl fmt::Display for Fault {
     ghost output = { λ f. Some (fault_text f) };
 

@@ -58,6 +58,8 @@ impl<F: Store, S: Store> Store for Pair<F, S> {
     }
 }
 
+// Like a write but for the call that is passed on. Each call chooses its half by itself: the halves differ in type, so a choice
+// made once is an enum with two arms again, tried, and longer.
 impl<F: Bench, S: Bench> Bench for Pair<F, S> {
     fn upset(&mut self, cell: u32, mask: u32) -> Result<(), Fault> {
         self.test_write(cell, mask)?;

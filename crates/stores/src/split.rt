@@ -9,6 +9,7 @@ use crate::bits::with_low_bits;
 use crate::fault::Fault;
 use crate::store::{Store, limited};
 
+// Two arrays and not one of pairs, since that is the make: the chips of words, and those of checks.
 #[derive(Drop)]
 pub struct Split<'a, 'b> {
     words: &'a mut [u16],

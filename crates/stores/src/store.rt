@@ -19,7 +19,8 @@ pub const CONTENT_LIMIT: u32 = 1 << CONTENT_BITS;
 pub trait Store {
     ghost meaning: { Self → Meaning };
 
-    // What lies outside the cells in the memory that the store was lent; no call changes it.
+    // What lies outside the cells in the memory that the store was lent; no call changes it, which each contract says, since no
+    // invariant of a store can relate before and after.
     ghost outside: { Self → Outside };
 
     ghost proper: { (s : Self) → Proper (meaning s) };

@@ -3,9 +3,9 @@
 #![tactic(auto)]
 
 #[cfg(test)]
-mod bench_trials;
+mod answers_trials;
 #[cfg(test)]
-mod card_language_trials;
+mod bench_trials;
 #[cfg(test)]
 mod language_trials;
 #[cfg(test)]

@@ -8,10 +8,7 @@ fn fault(cause: Cause, layer: u8, cell: u32) -> Fault {
 }
 
 fn map(count: u32, banks: &[Bank]) -> Result<BankMap, Fail> {
-    match BankMap::new(count, banks) {
-        Ok(map) => Ok(map),
-        Err(_) => Err(Fail::new("no map")),
-    }
+    BankMap::new(count, banks).map_err(|_| Fail::new("no map"))
 }
 
 #[test]

@@ -1,7 +1,7 @@
 // Writes of a byte: with no error, with a single and with a double one in the word that stands there.
 use crate::trial::{
     BLOCK, BOTH, CHECKS, CORRECTION_OFF, DIAGNOSTIC, DOUBLE, LATCH, NO_ERROR, NORMAL, NOTHING,
-    PROTECTED, SINGLE, SYNDROME_DOUBLE, SYNDROME_SINGLE, Seen, Trial, tried,
+    PROTECTED, SINGLE, SYNDROME_DOUBLE, SYNDROME_SINGLE, Seen, Trial, tried, uncorrectable,
 };
 use codes::{Verdict, pack};
 use std::test::Fail;
@@ -88,15 +88,7 @@ fn single_error(rt: HostRuntime) -> Result<(), Fail> {
 
 // The old cell is written back and the byte is lost, and the card says so, where the maker's keeps silent: bit 15 is set.
 fn lost(logged: (u16, u8), latch: u8) -> Seen {
-    Seen {
-        word: 0,
-        treatment: Verdict::Bad,
-        single_error: false,
-        uncorrectable: true,
-        logged,
-        latch,
-        content: pack(515, CHECKS),
-    }
+    uncorrectable(0, logged, latch)
 }
 
 #[test]

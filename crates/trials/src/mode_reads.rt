@@ -1,22 +1,15 @@
 // Reads with no error, with a single one and with a double one.
 use crate::trial::{
     BLOCK, BOTH, CHECKS, CORRECTION_OFF, DIAGNOSTIC, DOUBLE, LATCH, NO_ERROR, NORMAL, NOTHING,
-    PROTECTED, SINGLE, STORED, SYNDROME_DOUBLE, SYNDROME_SINGLE, Seen, Trial, tried,
+    PROTECTED, SINGLE, STORED, SYNDROME_DOUBLE, SYNDROME_SINGLE, Seen, Trial, tried, uncorrectable,
+    unlogged,
 };
 use codes::{Verdict, pack};
 use std::test::Fail;
 
 // A read with no error: the word is placed on the bus, and the latch holds what is given.
 fn sound(latch: u8) -> Seen {
-    Seen {
-        word: STORED,
-        treatment: Verdict::Sound,
-        single_error: false,
-        uncorrectable: false,
-        logged: NOTHING,
-        latch,
-        content: pack(512, CHECKS),
-    }
+    unlogged(STORED, latch, pack(512, CHECKS))
 }
 
 fn read(control: u16, mask: u32) -> Result<Seen, Fail> {
@@ -89,15 +82,7 @@ fn single_error(rt: HostRuntime) -> Result<(), Fail> {
 
 // A read of a double error.
 fn bad(logged: (u16, u8), latch: u8) -> Seen {
-    Seen {
-        word: STORED ^ 3,
-        treatment: Verdict::Bad,
-        single_error: false,
-        uncorrectable: true,
-        logged,
-        latch,
-        content: pack(515, CHECKS),
-    }
+    uncorrectable(STORED ^ 3, logged, latch)
 }
 
 // Of a protected word while correction alone is off the card logs nothing, where the maker's table does: that row is left out.

@@ -1,8 +1,9 @@
 // Writes of a word, which look at nothing that stood there.
 use crate::trial::{
-    BOTH, CORRECTION_OFF, DIAGNOSTIC, DOUBLE, LATCH, NORMAL, NOTHING, PROTECTED, Seen, Trial, tried,
+    BOTH, CORRECTION_OFF, DIAGNOSTIC, DOUBLE, LATCH, NORMAL, PROTECTED, Seen, Trial, tried,
+    unlogged,
 };
-use codes::{Verdict, pack};
+use codes::pack;
 use std::test::Fail;
 
 // The word 1 over a twice-struck word.
@@ -12,15 +13,7 @@ fn write(control: u16) -> Result<Seen, Fail> {
 
 // The word 1, with these checks.
 fn written(checks: u8, latch: u8) -> Seen {
-    Seen {
-        word: 0,
-        treatment: Verdict::Sound,
-        single_error: false,
-        uncorrectable: false,
-        logged: NOTHING,
-        latch,
-        content: pack(1, checks),
-    }
+    unlogged(0, latch, pack(1, checks))
 }
 
 #[test]

@@ -1,6 +1,6 @@
 // One transfer to a card in a given mode, and what can be seen of it afterwards.
 use card::{Misplaced, Module, Placement, Refusal, Treatment};
-use codes::Am2960;
+use codes::{Am2960, pack};
 use std::test::Fail;
 use stores::{Bench, Flat};
 
@@ -80,6 +80,32 @@ fn transfer(module: &mut Module<Flat<'_>, Am2960>, trial: Trial) -> Result<(u16,
         }
         Trial::Write(word) => Ok((0, module.dato(ADDRESS, word)?)),
         Trial::WriteByte(byte) => Ok((0, module.datob(ADDRESS + 1, byte)?)),
+    }
+}
+
+// What is seen where the cell was sound, or was not looked at: nothing is marked or logged.
+pub(crate) fn unlogged(word: u16, latch: u8, content: u32) -> Seen {
+    Seen {
+        word,
+        treatment: Treatment::Sound,
+        single_error: false,
+        uncorrectable: false,
+        logged: NOTHING,
+        latch,
+        content,
+    }
+}
+
+// What is seen of the word 512 struck twice: the cell stays as it is, and bit 15 is set.
+pub(crate) fn uncorrectable(word: u16, logged: (u16, u8), latch: u8) -> Seen {
+    Seen {
+        word,
+        treatment: Treatment::Bad,
+        single_error: false,
+        uncorrectable: true,
+        logged,
+        latch,
+        content: pack(515, CHECKS),
     }
 }
 

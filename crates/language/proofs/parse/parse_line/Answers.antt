@@ -1,21 +1,20 @@
-use Rattle.std.proofs.Common.{Ok, rules}
+use Rattle.std.proofs.Common.{Some, Ok, sym, ap, ◌∙◌}
 use Rattle.std.proofs.lemmas.Result.{err_from_is_err_and}
-use Rattle.lines.specs.Lines.{uncommented}
-use Rattle.language.proofs.Acts.{parsed_by_keyword}
-use Rattle.lines.proofs.Lines.{no_words}
+use Rattle.lines.specs.Lines.{left}
+use Rattle.lines.proofs.Lines.{by_first}
+use Rattle.language.specs.Acts.{and_then, asked}
 use Rattle.language.proofs.parse.parse_line.Goals as goal
 
-pub returns-then-is_empty : goal.returns-then-is_empty
-returns-then-is_empty c = search (rules, no_words (uncommented c.args.line.now))
-
--- These two exits go by one law, so that no search walks through the acts.
-pub returns-in_err-act_after : goal.returns-in_err-act_after
-returns-in_err-act_after c =
+-- Both exits after the acts go by the line's words, so that no search walks through the acts.
+pub returns-in_err-act_after-in-Some : goal.returns-in_err-act_after-in-Some
+returns-in_err-act_after-in-Some c =
     let p = err_from_is_err_and c.from_residual.result c.from_residual.ensures.1 in
-    let next = c.next_word-keyword.ensures in
-    rw (p.1, p.2) (parsed_by_keyword c.args.line.now _ _ _ _ c.new-words.ensures next.word next.after (search rules) c.in_err-act_after.ensures)
+    let next = c.in-Some.ensures.steps in
+    let split = by_first (left c.new-words.result) _ c.in-Some.keyword.now next.word next.rest in
+    rw (p.1, p.2) (ap (λ m. and_then m (λ a. Ok (Some a))) c.in_err-act_after-in-Some.ensures ∙ ap (asked c.args.dialect) (sym split ∙ c.new-words.ensures))
 
-pub returns : goal.returns
-returns c =
-    let next = c.next_word-keyword.ensures in
-    parsed_by_keyword c.args.line.now _ _ _ (Ok c.in_ok-act_after.field-0) c.new-words.ensures next.word next.after (search rules) c.in_ok-act_after.ensures
+pub returns-in_ok-act_after-in-Some : goal.returns-in_ok-act_after-in-Some
+returns-in_ok-act_after-in-Some c =
+    let next = c.in-Some.ensures.steps in
+    let split = by_first (left c.new-words.result) _ c.in-Some.keyword.now next.word next.rest in
+    ap (λ m. and_then m (λ a. Ok (Some a))) c.in_ok-act_after-in-Some.ensures ∙ ap (asked c.args.dialect) (sym split ∙ c.new-words.ensures)

@@ -3,8 +3,8 @@ use Rattle.lines.specs.Lines.{left}
 use Rattle.language.proofs.Banks.{Read}
 use Rattle.language.proofs.store_line.bank_list.Given as goal
 
-abbrev pub invariant-loop-words : goal.invariant-loop-words
-invariant-loop-words l = Read l.list (left l.words) (left l.initial.words)
+abbrev pub invariant-loop-word : goal.invariant-loop-word
+invariant-loop-word l = Read l.list (left l.words) (left l.initial.words)
 
-abbrev pub decreases-loop-words : goal.decreases-loop-words
-decreases-loop-words l = length (left l.words)
+abbrev pub decreases-loop-word : goal.decreases-loop-word
+decreases-loop-word l = length (left l.words)

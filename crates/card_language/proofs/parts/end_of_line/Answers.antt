@@ -1,6 +1,0 @@
-use Rattle.std.proofs.Common.{rules}
-use Rattle.lines.proofs.Lines.{no_words}
-use Rattle.card_language.proofs.parts.end_of_line.Goals as goal
-
-pub returns-then-is_empty : goal.returns-then-is_empty
-returns-then-is_empty c = search (rules, no_words)

@@ -1,2 +1,0 @@
-pub mod Acts
-pub mod Texts
