@@ -1,6 +1,6 @@
 -- The chains over the columns, by the definitions that they compute.
 -- Assumes nothing.
-use Rattle.std.specs.Prelude.{◌≡◌, ℕ, ◌+◌, ◌*◌, ◌/◌, ◌%◌, ◌^◌, Bool, true, false, ◌&&◌, cond, Some, None, Option, MatchOption, List, [], ◌∷◌, ◌==◌, bit_and, bit_xor, filter, position, length, drop, refl}
+use Rattle.std.specs.Prelude.{◌≡◌, ℕ, ◌+◌, ◌*◌, ◌/◌, ◌%◌, ◌^◌, Bool, true, false, ◌&&◌, cond, Some, None, Option, MatchOption, List, [], ◌∷◌, ◌==◌, bit_and, bit_xor, position, length, drop, refl}
 use Rattle.std.proofs.Common.{sym, ap, ap₂, ◌∙◌, mul-zero, mul-one, pow-suc, add-one, mul_assoc, arith}
 use Rattle.std.specs.List.{position_from, enumerate_from, fold, list_all}
 use Rattle.std.proofs.lemmas.Nat.{shr-shr, and_mask, one_shl}
@@ -27,25 +27,20 @@ named_from s i (c ∷ cs) =
     go true rest = sym (mul-one (2 ^ i))
     go false rest = rest
 
--- the columns of the set bits of the word, which are numbered from i on
-abbrev pub picked_from : ℕ → ℕ → List ℕ → List (ℕ × ℕ)
-picked_from word i cs = filter (λ (p : ℕ × ℕ). bit_and (word / 2 ^ p.0) 1 == 1) (enumerate_from i cs)
+-- the column of a set bit of the word joins the checks, that of another does not
+abbrev pub joined : ℕ → ℕ → ℕ × ℕ → ℕ
+joined word a p = cond (bit_and (word / 2 ^ p.0) 1 == 1) (bit_xor a p.1) a
 
-pub folded_from : (start word i : ℕ) (cs : List ℕ) → fold (λ (a : ℕ) (p : ℕ × ℕ). bit_xor a p.1) start (picked_from word i cs) ≡ folded_columns start cs (word / 2 ^ i)
+folded_from : (start word i : ℕ) (cs : List ℕ) → fold (joined word) start (enumerate_from i cs) ≡ folded_columns start cs (word / 2 ^ i)
 unfolding folded_columns
 folded_from start word i [] = refl
 folded_from start word i (c ∷ cs) =
-    rw (and_mask (word / 2 ^ i) 1) (go (word / 2 ^ i % 2 == 1) (λ a. folded_from a word (i + 1) cs ∙ ap (folded_columns a cs) (sym (shr-shr word i 1))))
-  where
-    go
-        : (b : Bool)
-        → ((a : ℕ) → fold (λ (x : ℕ) (p : ℕ × ℕ). bit_xor x p.1) a (picked_from word (i + 1) cs) ≡ folded_columns a cs (word / 2 ^ i / 2))
-        → fold (λ (x : ℕ) (p : ℕ × ℕ). bit_xor x p.1) start (cond b ((i, c) ∷ picked_from word (i + 1) cs) (picked_from word (i + 1) cs))
-        ≡ folded_columns (cond b (bit_xor start c) start) cs (word / 2 ^ i / 2)
-    go true rest = rest (bit_xor start c)
-    go false rest = rest start
+    let next : ℕ = cond (word / 2 ^ i % 2 == 1) (bit_xor start c) start in
+    let step : joined word start (i, c) ≡ next = ap (λ (b : ℕ). cond (b == 1) (bit_xor start c) start) (and_mask (word / 2 ^ i) 1) in
+    ap (λ (a : ℕ). fold (joined word) a (enumerate_from (i + 1) cs)) step ∙ folded_from next word (i + 1) cs
+    ∙ ap (folded_columns next cs) (sym (shr-shr word i 1))
 
-pub folded_is : (start word : ℕ) (cs : List ℕ) → fold (λ (a : ℕ) (p : ℕ × ℕ). bit_xor a p.1) start (picked_from word 0 cs) ≡ folded_columns start cs word
+pub folded_is : (start word : ℕ) (cs : List ℕ) → fold (joined word) start (enumerate_from 0 cs) ≡ folded_columns start cs word
 folded_is start word cs =
     let whole : word / 2 ^ 0 ≡ word = omega arith in
     folded_from start word 0 cs ∙ ap (folded_columns start cs) whole

@@ -54,8 +54,13 @@ fn fold_columns(columns: &[u8; 16], word: u16) -> u8
     columns
         .iter()
         .enumerate()
-        .filter(|&(place, _)| (word >> place) & 1 == 1)
-        .fold(CHECKS_OF_ZERO, |checks, (_, column)| checks ^ column)
+        .fold(CHECKS_OF_ZERO, |checks, (place, column)| {
+            if (word >> place) & 1 == 1 {
+                checks ^ column
+            } else {
+                checks
+            }
+        })
 }
 
 // The data bit whose column the syndrome is, as a mask; 0 where it is none.
