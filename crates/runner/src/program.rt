@@ -1,4 +1,7 @@
 // A program of the bench, from its arguments to its exit code.
+ghost use Rattle.std.specs.Prelude.{◌≤◌};
+ghost use Rattle.std.specs.Process.{exit_status};
+
 use crate::output::Output;
 use crate::reading::Lines;
 use crate::stop::Stop;
@@ -17,7 +20,10 @@ pub struct Program {
 
 impl Program {
     // Runs the jobs that are named, and says on standard error what ended the program early.
-    pub fn run(&self, rt: &HostRuntime) -> ExitCode {
+    // The status is 0 or 1.
+    pub fn run(&self, rt: &HostRuntime) -> ExitCode
+        ensures { exit_status result ≤ 1 }
+    {
         let Err(stop) = self.run_arguments(rt) else {
             return ExitCode::SUCCESS;
         };

@@ -1,4 +1,5 @@
 // Jobs line by line: what is answered, and what is wrong where.
+use crate::said::{DIALECTS, wrong};
 use answers::{Answer, Refused};
 use bench::{CardJob, Job, Stage, StoreJob};
 use card::{Placement, Refusal, WordRead};
@@ -7,16 +8,6 @@ use language::{AskedPlacement, Dialect, Expected, Make, Wrong};
 use std::ops::ControlFlow;
 use std::test::Fail;
 use stores::{Cause, Fault, Flat};
-
-const DIALECTS: [Dialect; 2] = [Dialect::Stores, Dialect::Cards];
-
-// What is wrong with a line whose first word is the one that was found.
-fn wrong<T>(expected: Expected, found: &[u8]) -> Result<T, Wrong<'_>> {
-    Err(Wrong {
-        expected,
-        found: Some(found),
-    })
-}
 
 #[test]
 fn the_head_of_a_job(rt: HostRuntime) {

@@ -1,4 +1,5 @@
 // Lines of a job, good and wrong, in both dialects.
+use crate::said::{DIALECTS, wrong};
 use codes::CodeName;
 use language::{
     Act, AskedMap, AskedPlacement, BankList, Dialect, Expected, Make, Words, Wrong, parse_line,
@@ -7,21 +8,12 @@ use language::{
 use maps::Bank;
 use std::test::Fail;
 
-const DIALECTS: [Dialect; 2] = [Dialect::Stores, Dialect::Cards];
-
-fn mistake(dialect: Dialect, line: &[u8]) -> Option<Wrong<'_>> {
-    parse_line(dialect, line).err()
+fn mistake(dialect: Dialect, line: &[u8]) -> Result<(), Wrong<'_>> {
+    parse_line(dialect, line).map(|_| ())
 }
 
-fn wrong(expected: Expected, found: &[u8]) -> Option<Wrong<'_>> {
-    Some(Wrong {
-        expected,
-        found: Some(found),
-    })
-}
-
-fn ended(expected: Expected) -> Option<Wrong<'static>> {
-    Some(Wrong {
+fn ended(expected: Expected) -> Result<(), Wrong<'static>> {
+    Err(Wrong {
         expected,
         found: None,
     })

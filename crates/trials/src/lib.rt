@@ -19,6 +19,8 @@ mod mode_reads;
 #[cfg(test)]
 mod mode_writes;
 #[cfg(test)]
+mod said;
+#[cfg(test)]
 mod stores_trials;
 #[cfg(test)]
 mod trial;
