@@ -1,5 +1,5 @@
 // A job on a card over a bench store: what each line answers, and what it does to the card.
-ghost use Rattle.std.specs.Prelude.{◌≡◌, None};
+ghost use Rattle.std.specs.Prelude.{◌≡◌};
 ghost use Rattle.rules.specs.Calls.{read_answer, wrote_answer, refused as refused_call};
 ghost use Rattle.rules.specs.Power.{powered_up};
 ghost use Rattle.rules.specs.Targets.{placed};

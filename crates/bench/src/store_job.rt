@@ -1,5 +1,5 @@
 // A job on a bench store: what each act answers, and what it does to the store.
-ghost use Rattle.std.specs.Prelude.{◌≡◌, None};
+ghost use Rattle.std.specs.Prelude.{◌≡◌};
 ghost use Rattle.answers.specs.Answers.{totals_of};
 ghost use Rattle.bench.specs.Jobs.{struck_answer, content_answer, performed_on, store_after, totals_by};
 

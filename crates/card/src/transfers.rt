@@ -1,7 +1,6 @@
 // The bus transfers: DATI, DATIP, DATO and DATOB, to words and to the control word.
 ghost use Rattle.std.specs.Prelude.{◌≡◌, true, is_ok};
 ghost use Rattle.stores.specs.Meaning.{granted};
-ghost use Rattle.rules.specs.Targets.{placed};
 ghost use Rattle.rules.specs.Calls.{dati, datip, dato, datob, read_answer, wrote_answer};
 ghost use Rattle.card.specs.Modules.{state_of, on_module, answer_to, state_after, Stays};
 ghost use Rattle.rules.specs.Transfers.{read_cell, write_byte, cell_for, put, put_if_fitted, merged};

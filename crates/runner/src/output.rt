@@ -160,6 +160,7 @@ impl Output {
     }
 
     // The rest of a job, on a card with the code that its head chose.
+    // A match, since no value stands for either code.
     fn run_placed<I: BufRead + Drop, B: Bench + Drop>(
         &mut self,
         lines: Lines<'_, I>,
