@@ -9,7 +9,7 @@ use Rattle.rules.specs.Calls.{refusal_says, refusal_number}
 use Rattle.answers.specs.declared.answer.Answer.{Answer}
 use Rattle.answers.specs.declared.answer.Answer.TheVariants.{Checks, Judged, Word, Treated, Struck, Content, Faulted, Refused}
 use Rattle.answers.specs.declared.refused.Refused.{Refused as Why}
-use Rattle.answers.specs.declared.refused.Refused.TheVariants.{Map, Placement, Call}
+use Rattle.answers.specs.declared.refused.Refused.TheVariants.{Map, Placement, Call, Numbered}
 use Rattle.answers.specs.declared.totals.Totals.{Totals}
 
 -- the parity mark, where it is given
@@ -22,16 +22,21 @@ abbrev pub refused_number : Why → ℕ
 refused_number (Map m) = no_map_number
 refused_number (Placement m) = misplaced_number m
 refused_number (Call r) = refusal_number r
+refused_number (Numbered number carried) = number
 
--- what a refusal carries
+-- what a refusal carries, if anything: the bus address as given and the store's fault
+abbrev pub refused_carries : Why → Option (ℕ × Fault)
+refused_carries (Map m) = None
+refused_carries (Placement m) = None
+refused_carries (Call r) = (refusal_says r).1
+refused_carries (Numbered number carried) = carried
+
 abbrev pub carried_text : Option (ℕ × Fault) → List ℕ
 carried_text None = []
 carried_text (Some c) = codes " address " ++ (decimal c.0 ++ (codes " " ++ fault_text c.1))
 
 abbrev pub refused_text : Why → List ℕ
-refused_text (Map m) = decimal no_map_number
-refused_text (Placement m) = decimal (misplaced_number m)
-refused_text (Call r) = decimal (refusal_number r) ++ carried_text (refusal_says r).1
+refused_text r = decimal (refused_number r) ++ carried_text (refused_carries r)
 
 -- the answer to an act
 abbrev pub answer_text : Answer → List ℕ

@@ -6,7 +6,7 @@ use crate::refused::Refused;
 use card::{Treatment, WordRead};
 use codes::Judgement;
 use std::fmt;
-use stores::Fault;
+use stores::{Fault, FaultNumbers};
 
 #[derive(Clone, Copy, PartialEq, Eq, Debug)]
 pub enum Answer {
@@ -49,7 +49,10 @@ impl fmt::Display for Answer {
             Answer::Treated { treatment } => write!(f, "{treatment}"),
             Answer::Struck => write!(f, "struck"),
             Answer::Content { content } => write!(f, "content {content}"),
-            Answer::Faulted(fault) => write!(f, "fault {fault}"),
+            Answer::Faulted(fault) => {
+                let numbers = FaultNumbers { fault };
+                write!(f, "fault cause {numbers}")
+            }
             Answer::Refused(refused) => write!(f, "refused {refused}"),
         }
     }

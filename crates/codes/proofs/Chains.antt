@@ -8,7 +8,7 @@ use Rattle.std.proofs.lemmas.Iterator.Adapters.{position_from-zero}
 use Rattle.std.proofs.lemmas.List.Quantifiers.{position-Some}
 use Rattle.std.proofs.lemmas.List.{drop-drop}
 use Rattle.codes.specs.Columns.{folded_columns, named_bit}
-use Rattle.codes.specs.Tables.{column_test, columns_test}
+use Rattle.codes.specs.Tables.{first_test, columns_test}
 
 -- the mask of the place that was found, 0 where none was
 abbrev pub mask_of : Option ℕ → ℕ
@@ -61,13 +61,13 @@ found_mask s cs (Some i) mask long at shifted =
 
 -- a numbered column, with those behind it
 abbrev pub place_test : List ℕ → ℕ × ℕ → Bool
-place_test cs p = column_test p.1 (drop (p.0 + 1) cs)
+place_test cs p = first_test p.1 (drop (p.0 + 1) cs)
 
 fits_from : (cs rest : List ℕ) (i : ℕ) → rest ≡ drop i cs → list_all (place_test cs) (enumerate_from i rest) ≡ columns_test rest
 fits_from cs [] i e = refl
 fits_from cs (c ∷ rest) i e =
     let behind : rest ≡ drop (i + 1) cs = ap (drop 1) e ∙ drop-drop 1 i cs in
-    ap₂ (λ xs b. column_test c xs && b) (sym behind) (fits_from cs rest (i + 1) behind)
+    ap₂ (λ xs b. first_test c xs && b) (sym behind) (fits_from cs rest (i + 1) behind)
 
 pub fits_is : (cs : List ℕ) → list_all (place_test cs) (enumerate_from 0 cs) ≡ columns_test cs
 fits_is cs = fits_from cs cs 0 refl

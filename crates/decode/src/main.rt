@@ -50,11 +50,10 @@ fn main(rt: HostRuntime) -> anyhow::Result<()> {
 }
 
 fn run(rt: &HostRuntime) -> anyhow::Result<()> {
-    let seen = (0..64u8)
-        .map(|syndrome| compare(printed_at(syndrome), syndrome))
-        .collect::<Vec<Seen>>(rt.alloc())?;
-    // The place of what was seen is its syndrome.
-    for (syndrome, one) in seen.iter().enumerate() {
+    // An array, so that nothing here asks for memory; the place of what was seen is its syndrome.
+    let mut seen = [Seen::NotCompared; 64];
+    for (syndrome, one) in (0..64u8).zip(&mut seen) {
+        *one = compare(printed_at(syndrome), syndrome);
         if *one == Seen::Differs {
             println!(rt; "syndrome {syndrome}: the code does not answer as the table says")?;
         }

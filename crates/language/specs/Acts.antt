@@ -195,31 +195,36 @@ abbrev pub store_act : List (List ℕ) → Result Act Mistake
 store_act [] = Err (expected.Make, None)
 store_act (w ∷ ws) = make_act w ws
 
--- what a keyword and the words after it ask for where a card is placed and called
+-- what a keyword and the words after it ask for: what a bench does to the cells of a store
+abbrev pub bench_act : Dialect → List ℕ → List (List ℕ) → Result Act Mistake
+bench_act dialect keyword ws =
+    cond (bytes_eq keyword (codes "strike")) (strike_act ws)
+    (cond (bytes_eq keyword (codes "cell")) (cell_act ws)
+    (Err (expected.Act dialect, Some keyword)))
+
+-- where a card is placed and called: bus transfers, a placement, and what a bench does
 abbrev pub card_act : List ℕ → List (List ℕ) → Result Act Mistake
 card_act keyword ws =
-    cond (bytes_eq keyword (codes "place")) (place_act ws)
-    (cond (bytes_eq keyword (codes "dati")) (dati_act ws)
+    cond (bytes_eq keyword (codes "dati")) (dati_act ws)
     (cond (bytes_eq keyword (codes "datip")) (datip_act ws)
     (cond (bytes_eq keyword (codes "dato")) (dato_act ws)
     (cond (bytes_eq keyword (codes "datob")) (datob_act ws)
-    (Err (expected.Act Cards, Some keyword))))))
+    (cond (bytes_eq keyword (codes "place")) (place_act ws)
+    (bench_act Cards keyword ws)))))
 
 -- what any other keyword asks for in a dialect
 abbrev pub dialect_act : Dialect → List ℕ → List (List ℕ) → Result Act Mistake
-dialect_act Stores keyword ws = Err (expected.Act Stores, Some keyword)
+dialect_act Stores keyword ws = bench_act Stores keyword ws
 dialect_act Cards keyword ws = card_act keyword ws
 
--- what a keyword and the words after it ask for
+-- the code and the store of a job, acts without a store, and those of the dialect
 abbrev pub act_of : Dialect → List ℕ → List (List ℕ) → Result Act Mistake
 act_of dialect keyword ws =
     cond (bytes_eq keyword (codes "code")) (code_act ws)
     (cond (bytes_eq keyword (codes "store")) (store_act ws)
     (cond (bytes_eq keyword (codes "checks")) (checks_act ws)
     (cond (bytes_eq keyword (codes "judge")) (judge_act ws)
-    (cond (bytes_eq keyword (codes "strike")) (strike_act ws)
-    (cond (bytes_eq keyword (codes "cell")) (cell_act ws)
-    (dialect_act dialect keyword ws))))))
+    (dialect_act dialect keyword ws))))
 
 -- what the words of a line ask for, if there are any
 abbrev pub asked : Dialect → List (List ℕ) → Result (Option Act) Mistake

@@ -2,7 +2,7 @@
 ghost use Rattle.std.specs.Prelude.{◌≡◌, option_map};
 ghost use Rattle.lines.specs.Lines.{left};
 ghost use Rattle.language.specs.Acts.{told, code_named, named, act_of, parsed};
-ghost use Rattle.language.specs.Acts.{code_act, place_act, checks_act, judge_act, card_act};
+ghost use Rattle.language.specs.Acts.{code_act, place_act, checks_act, judge_act, card_act, bench_act};
 ghost use Rattle.language.specs.Acts.{dati_act, datip_act, dato_act, datob_act, strike_act, cell_act};
 
 use crate::act::{Act, AskedPlacement};
@@ -31,6 +31,8 @@ pub fn parse_line<'a>(dialect: Dialect, line: &'a [u8]) -> Result<Option<Act>, W
 }
 
 // A chain of tests, and no match on byte strings: tried, and the proof then joins the bytes of each of eighteen arms by hand.
+// Never inlined, so that a line without a word does not pay for what the acts keep on the stack.
+#[inline(never)]
 fn act_after<'a>(dialect: Dialect, keyword: &'a [u8], words: Words<'a>) -> Result<Act, Wrong<'a>>
     ensures { told result ≡ act_of dialect keyword.now (left words.entry) }
 {
@@ -42,28 +44,19 @@ fn act_after<'a>(dialect: Dialect, keyword: &'a [u8], words: Words<'a>) -> Resul
         checks_act(words)
     } else if is(keyword, "judge") {
         judge_act(words)
-    } else if is(keyword, "strike") {
-        strike_act(words)
-    } else if is(keyword, "cell") {
-        cell_act(words)
     } else {
         match dialect {
             Dialect::Cards => card_act(keyword, words),
-            Dialect::Stores => Err(Wrong {
-                expected: Expected::Act(dialect),
-                found: Some(keyword),
-            }),
+            Dialect::Stores => bench_act(dialect, keyword, words),
         }
     }
 }
 
-// The lines that place a card and call it; a chain of tests as above.
+// The lines that place a card and call it; a chain of tests as above, with what stands often in a job before what stands once.
 fn card_act<'a>(keyword: &'a [u8], words: Words<'a>) -> Result<Act, Wrong<'a>>
     ensures { told result ≡ card_act keyword.now (left words.entry) }
 {
-    if is(keyword, "place") {
-        place_act(words)
-    } else if is(keyword, "dati") {
+    if is(keyword, "dati") {
         dati_act(words)
     } else if is(keyword, "datip") {
         datip_act(words)
@@ -71,9 +64,25 @@ fn card_act<'a>(keyword: &'a [u8], words: Words<'a>) -> Result<Act, Wrong<'a>>
         dato_act(words)
     } else if is(keyword, "datob") {
         datob_act(words)
+    } else if is(keyword, "place") {
+        place_act(words)
+    } else {
+        bench_act(Dialect::Cards, keyword, words)
+    }
+}
+
+// What a bench does to the cells of a store; the chain that ends both others.
+#[inline(always)]
+fn bench_act<'a>(dialect: Dialect, keyword: &'a [u8], words: Words<'a>) -> Result<Act, Wrong<'a>>
+    ensures { told result ≡ bench_act dialect keyword.now (left words.entry) }
+{
+    if is(keyword, "strike") {
+        strike_act(words)
+    } else if is(keyword, "cell") {
+        cell_act(words)
     } else {
         Err(Wrong {
-            expected: Expected::Act(Dialect::Cards),
+            expected: Expected::Act(dialect),
             found: Some(keyword),
         })
     }

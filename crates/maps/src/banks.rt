@@ -1,6 +1,6 @@
 // Bank maps: a value type that is always a map.
 ghost use Rattle.std.specs.Prelude.{◌≡◌, true};
-ghost use Rattle.maps.specs.Banks.{is_map, banks_in};
+ghost use Rattle.maps.specs.Banks.{is_map, banks_in, banks_before};
 
 use crate::bank::Bank;
 
@@ -16,4 +16,6 @@ pub struct BankMap {
     // The banks in their order, and empty ones in the places behind them.
     banks: [Bank; MOST_BANKS],
     ghost lawful: { is_map count (banks_in banks) ≡ true },
+    // No bank stands behind an empty place.
+    ghost packed: { banks_before banks ≡ banks_in banks },
 }

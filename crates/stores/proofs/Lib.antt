@@ -1,1 +1,3 @@
 pub mod Elements
+pub mod Changes
+pub mod Frames

@@ -1,7 +1,7 @@
 // Faults: why a store refuses, which layer says so, and of which of its cells.
 ghost use Rattle.std.specs.Prelude.{◌≡◌, Some};
 ghost use Rattle.stores.specs.Faults.{cause_number};
-ghost use Rattle.stores.specs.Texts.{fault_text};
+ghost use Rattle.stores.specs.Texts.{numbers_text, fault_text};
 
 use std::fmt;
 
@@ -33,12 +33,28 @@ pub struct Fault {
     pub cell: u32,
 }
 
+// The numbers of a fault as text: what stands behind the word `cause`, which is written in one piece with the words before it.
+#[derive(Clone, Copy, PartialEq, Eq, Debug)]
+pub struct FaultNumbers {
+    pub fault: Fault,
+}
+
 // By hand: a derived text has no contract.
+impl fmt::Display for FaultNumbers {
+    ghost output = { λ n. Some (numbers_text n.fault) };
+
+    fn fmt<W: fmt::Write>(&self, f: &mut fmt::Formatter<W>) -> fmt::Result {
+        let Fault { cause, layer, cell } = self.fault;
+        write!(f, "{} layer {layer} cell {cell}", cause.number())
+    }
+}
+
+// By hand, as above.
 impl fmt::Display for Fault {
     ghost output = { λ f. Some (fault_text f) };
 
     fn fmt<W: fmt::Write>(&self, f: &mut fmt::Formatter<W>) -> fmt::Result {
-        let Fault { cause, layer, cell } = *self;
-        write!(f, "cause {} layer {layer} cell {cell}", cause.number())
+        let numbers = FaultNumbers { fault: *self };
+        write!(f, "cause {numbers}")
     }
 }

@@ -6,6 +6,7 @@ ghost use Rattle.stores.specs.Meaning.{Meaning, Proper, tested_cell, tested, wri
 ghost use Rattle.stores.specs.Memory.{Outside};
 
 use crate::fault::{Cause, Fault};
+use crate::refusal::{test_cell, test_write};
 
 // No store has more cells than this; a longer memory counts as this long.
 pub const MOST_CELLS: u32 = 524288;
@@ -47,23 +48,14 @@ pub trait Store {
     fn test_cell(&self, cell: u32) -> Result<(), Fault>
         ensures { result ≡ tested_cell (meaning self.now).layer (meaning self.now).count cell }
     {
-        if cell < self.count() {
-            Ok(())
-        } else {
-            Err(self.fault(Cause::PastCount, cell))
-        }
+        test_cell(self.layer(), self.count(), cell)
     }
 
     // What a call tests first of a cell and a number to be written there: then one that is too wide is refused.
     fn test_write(&self, cell: u32, number: u32) -> Result<(), Fault>
         ensures { result ≡ tested (meaning self.now).layer (meaning self.now).count cell number }
     {
-        self.test_cell(cell)?;
-        if number < CONTENT_LIMIT {
-            Ok(())
-        } else {
-            Err(self.fault(Cause::TooWide, cell))
-        }
+        test_write(self.layer(), self.count(), cell, number)
     }
 
     // The content of a cell, or its fault.

@@ -1,6 +1,6 @@
 // Stores of every make, alone and in piles.
 use std::test::Fail;
-use stores::{Bench, Cause, Fault, Flat, MOST_CELLS, Pair, Split, Store};
+use stores::{Bench, Cause, Fault, Flat, MOST_CELLS, Pair, Split, Store, test_cell, test_write};
 
 fn fault(cause: Cause, layer: u8, cell: u32) -> Fault {
     Fault { cause, layer, cell }
@@ -21,6 +21,25 @@ fn flat_keeps_the_other_bits(rt: HostRuntime) {
     );
     drop(flat);
     assert_eq!(rt; cells, [0xffc0_0007, 0x0040_0003]);
+}
+
+// Any layer and any count, also those that no store here has.
+#[test]
+fn tests_of_a_layer(rt: HostRuntime) {
+    assert_eq!(rt; test_cell(7, 600000, 599999), Ok(()));
+    assert_eq!(rt;
+        test_cell(7, 600000, 600000),
+        Err(fault(Cause::PastCount, 7, 600000))
+    );
+    assert_eq!(rt; test_write(9, 5, 4, 0x3f_ffff), Ok(()));
+    assert_eq!(rt;
+        test_write(9, 5, 4, 0x40_0000),
+        Err(fault(Cause::TooWide, 9, 4))
+    );
+    assert_eq!(rt;
+        test_write(9, 5, 5, 0x40_0000),
+        Err(fault(Cause::PastCount, 9, 5))
+    );
 }
 
 #[test]

@@ -7,8 +7,9 @@ use crate::bank::Bank;
 use crate::banks::{BankMap, MOST_BANKS};
 use stores::MOST_CELLS;
 
+// What fills the places behind the banks: empty, and past every cell, so that a search ends there.
 const NO_BANK: Bank = Bank {
-    offset: 0,
+    offset: u32::MAX,
     length: 0,
 };
 
@@ -52,6 +53,10 @@ impl BankMap {
     {
         let mut before = 0;
         for bank in &self.banks {
+            // The banks are in order, so none that follows holds the cell.
+            if cell < bank.offset {
+                return None;
+            }
             if inside(*bank, cell) {
                 return Some(before + (cell - bank.offset));
             }
