@@ -52,7 +52,7 @@ fn act_after<'a>(dialect: Dialect, keyword: &'a [u8], words: Words<'a>) -> Resul
     }
 }
 
-// The lines that place a card and call it; a chain of tests as above, with what stands often in a job before what stands once.
+// The lines that place a card and call it; a chain of tests as above. Transfers come before `place`, which stands once in a job.
 fn card_act<'a>(keyword: &'a [u8], words: Words<'a>) -> Result<Act, Wrong<'a>>
     ensures { told result ≡ card_act keyword.now (left words.entry) }
 {

@@ -1,6 +1,6 @@
 -- Bank maps: which counts and pairs make a map, and which cell below a cell stands for.
 -- Assumes nothing.
-use Rattle.std.specs.Prelude.{ℕ, ◌+◌, ◌-◌, Bool, true, cond, ◌&&◌, List, [], ◌∷◌, filter, length, Some, None, Option, ◌==◌, nat_le, nat_lt}
+use Rattle.std.specs.Prelude.{ℕ, ◌+◌, ◌-◌, Bool, true, cond, ◌&&◌, List, [], ◌∷◌, filter, length, Some, None, Option, nat_le, nat_lt}
 use Rattle.maps.specs.declared.bank.Bank.{Bank}
 use Rattle.stores.specs.Meaning.{most_cells}
 
@@ -11,11 +11,6 @@ most_banks = 8
 -- the banks that stand in a row of places: those that have cells
 abbrev pub banks_in : List Bank → List Bank
 banks_in places = filter (λ bank. nat_lt 0 bank.length) places
-
--- those that stand before the first place without a bank
-abbrev pub banks_before : List Bank → List Bank
-banks_before [] = []
-banks_before (bank ∷ places) = cond (bank.length == 0) [] (bank ∷ banks_before places)
 
 -- the number after the bank's last cell
 abbrev pub end_of : Bank → ℕ

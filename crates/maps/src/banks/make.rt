@@ -7,9 +7,8 @@ use crate::bank::Bank;
 use crate::banks::{BankMap, MOST_BANKS};
 use stores::MOST_CELLS;
 
-// What fills the places behind the banks: empty, and past every cell, so that a search ends there.
 const NO_BANK: Bank = Bank {
-    offset: u32::MAX,
+    offset: 0,
     length: 0,
 };
 
@@ -37,6 +36,7 @@ impl BankMap {
         places[..banks.len()].copy_from_slice(banks);
         Ok(BankMap {
             count,
+            used: banks.len(),
             banks: places,
         })
     }
@@ -52,7 +52,7 @@ impl BankMap {
         ensures { result ≡ cell_below (banks_of self.now) 0 cell }
     {
         let mut before = 0;
-        for bank in &self.banks {
+        for bank in &self.banks[..self.used] {
             // The banks are in order, so none that follows holds the cell.
             if cell < bank.offset {
                 return None;
